@@ -1,0 +1,9 @@
+pub mod Codes
+pub mod Division
+pub mod Eight
+pub mod Fixed
+pub mod Groups
+pub mod Texts
+pub mod Varints
+pub mod Vectors
+pub mod Lists

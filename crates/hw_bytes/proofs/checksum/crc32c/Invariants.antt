@@ -1,0 +1,16 @@
+use Rattle.std.proofs.Common.{◌≡◌, ◌≤◌, ◌-◌, take, length}
+use Rattle.std.specs.List.{fold}
+use Rattle.hw_bytes.specs.Checksum.{with_byte, all_ones}
+use Rattle.hw_bytes.proofs.checksum.crc32c.Given as goal
+
+abbrev pub invariant-loop-at : goal.invariant-loop-at
+invariant-loop-at l = record { within : l.at ≤ length l.bytes; value : l.remainder ≡ fold with_byte all_ones (take l.at l.bytes) }
+
+abbrev pub decreases-loop-at : goal.decreases-loop-at
+decreases-loop-at l = length l.bytes - l.at
+
+abbrev pub invariant-loop-at-2 : goal.invariant-loop-at-2
+invariant-loop-at-2 l = record { within : l.at ≤ length l.bytes; value : l.remainder ≡ fold with_byte all_ones (take l.at l.bytes) }
+
+abbrev pub decreases-loop-at-2 : goal.decreases-loop-at-2
+decreases-loop-at-2 l = length l.bytes - l.at

@@ -1,0 +1,5 @@
+pub mod Checksum
+pub mod Spellings
+pub mod Numbers
+pub mod Reading
+pub mod Lists

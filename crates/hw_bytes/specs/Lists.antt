@@ -1,0 +1,30 @@
+-- Words on lists that several crates' definitions share.
+use Rattle.std.specs.Prelude.{◌≡◌, Bool, true, List, [], ◌∷◌, ◌++◌, Option, None, Some, if◌then◌else◌}
+use Rattle.std.specs.List.{list_any}
+
+-- for each element, in order, what f says of the elements before it and of it
+abbrev pub along : {A B : Type 0} → (List A → A → List B) → List A → List B
+along f [] = []
+along f (x ∷ xs) = f [] x ++ along (λ before. f (x ∷ before)) xs
+
+-- x, if it is equal to none before it
+abbrev pub if_new : {A : Type 0} → (A → A → Bool) → List A → A → List A
+if_new same before x = if list_any (same x) before then [] else x ∷ []
+
+-- the elements without repeats, by first place
+abbrev pub distinct : {A : Type 0} → (A → A → Bool) → List A → List A
+distinct same xs = along (if_new same) xs
+
+abbrev pub or_else : {A : Type 0} → Option A → Option A → Option A
+or_else None b = b
+or_else (Some a) b = Some a
+
+-- what f finds at the last element at which it finds something
+abbrev pub last_found : {A B : Type 0} → (A → Option B) → List A → Option B
+last_found f [] = None
+last_found f (x ∷ xs) = or_else (last_found f xs) (f x)
+
+-- a test of equality
+pub record IsSame {A : Type 0} (same : A → A → Bool) : Type 0 where
+  pub reflexive : (a : A) → same a a ≡ true
+  pub exact : (a b : A) → same a b ≡ true → a ≡ b

@@ -1,0 +1,93 @@
+//! How a run can end.
+
+ghost use Rattle.std.specs.Prelude.{◌≡◌, ◌↔◌};
+ghost use Rattle.clap.specs.Values.{kind_of};
+ghost use Rattle.clap.specs.declared.error.kind.ErrorKind.TheVariants as kind;
+ghost use Rattle.prom_head.specs.declared.fault.Fault.TheVariants.{OutOfMemory};
+
+use crate::store::StoreFault;
+use clap::error::ErrorKind;
+use std::alloc::{AllocError, AllocFailed, Global};
+use std::process::ExitCode;
+use thiserror::Error;
+
+/// The program's exit status.
+#[derive(Clone, Copy, Debug, PartialEq, Eq)]
+pub enum Status {
+    Done = 0,
+    /// The arguments are wrong. Nothing was read.
+    Usage = 2,
+    /// Input or output failed, or what was asked cannot be done.
+    Refused = 3,
+    OutOfMemory = 4,
+}
+
+impl From<Status> for ExitCode {
+    fn from(status: Status) -> ExitCode {
+        ExitCode::from(status as u8)
+    }
+}
+
+/// Why a run failed. Its `Display` is what is said of it on standard error, after the program's name.
+#[derive(Debug, Drop, Error)]
+pub enum Fault {
+    /// The command line was refused. This text has several lines, and stands alone.
+    #[error(transparent)]
+    Usage(clap::Error),
+    #[error("the arguments must be UTF-8")]
+    NotUtf8,
+    #[error("cannot read {path}")]
+    CannotRead { path: String },
+    #[error("cannot write standard output")]
+    CannotPrint,
+    /// The directory holds what the program does not read yet.
+    #[error("not in this stage")]
+    Unsupported,
+    #[error("out of memory")]
+    OutOfMemory,
+}
+
+impl Fault {
+    /// Why the file or directory at `path` was not read. `OutOfMemory` too where the path cannot be copied.
+    pub fn cannot_read(alloc: Global, path: &str, fault: StoreFault) -> Fault {
+        match (fault, String::from_str(alloc, path)) {
+            (StoreFault::Refused, Ok(path)) => Fault::CannotRead { path },
+            _ => Fault::OutOfMemory,
+        }
+    }
+
+    pub fn status(&self) -> Status {
+        match self {
+            Fault::Usage(_) | Fault::NotUtf8 => Status::Usage,
+            Fault::CannotRead { .. } | Fault::CannotPrint | Fault::Unsupported => Status::Refused,
+            Fault::OutOfMemory => Status::OutOfMemory,
+        }
+    }
+}
+
+impl From<clap::Error> for Fault {
+    ghost from_gives = { λ e f. (f ≡ OutOfMemory) ↔ (kind_of e ≡ kind.OutOfMemory) };
+
+    fn from(error: clap::Error) -> Fault {
+        match error.kind() {
+            ErrorKind::OutOfMemory => Fault::OutOfMemory,
+            _ => Fault::Usage(error),
+        }
+    }
+}
+
+impl From<AllocError> for Fault {
+    ghost from_gives = { λ _ f. f ≡ OutOfMemory };
+
+    fn from(_error: AllocError) -> Fault {
+        Fault::OutOfMemory
+    }
+}
+
+impl<T: Drop> From<AllocFailed<T>> for Fault {
+    ghost from_gives = { λ _ f. f ≡ OutOfMemory };
+
+    fn from(_error: AllocFailed<T>) -> Fault {
+        Fault::OutOfMemory
+    }
+}

@@ -1,0 +1,56 @@
+//! The command line.
+
+use clap::error::ErrorKind;
+use clap::{Arg, ArgMatches, Command, Error};
+use std::alloc::{AllocError, Global};
+
+/// What the command line asks for.
+#[derive(Clone, Copy, Debug, PartialEq, Eq)]
+pub enum Request<'a> {
+    /// To count what the log in a directory holds.
+    Replay { dir: &'a str },
+}
+
+// These take the lifetime of the words, though their own texts are static, since the borrow checker does not shorten a
+// lifetime inside a `Command`.
+
+fn dir<'a>(alloc: Global) -> Arg<'a> {
+    Arg::new(alloc, "dir")
+        .value_name("DIR")
+        .help("The directory of the log")
+        .required(true)
+}
+
+fn replay<'a>(alloc: Global) -> Result<Command<'a>, AllocError> {
+    Command::new(alloc, "replay")
+        .about("Counts what the log holds")
+        .arg(dir(alloc))
+}
+
+fn command<'a>(alloc: Global) -> Result<Command<'a>, AllocError> {
+    Command::new(alloc, "prom_head")
+        .about("Reads a write-ahead log of samples")
+        .subcommand_required(true)
+        .disable_help_subcommand(true)
+        .subcommand(replay(alloc)?)
+}
+
+fn requested<'a>(matches: &ArgMatches<'a>) -> Option<Request<'a>> {
+    match matches.subcommand()? {
+        ("replay", of) => Some(Request::Replay {
+            dir: of.get_str("dir")?,
+        }),
+        _ => None,
+    }
+}
+
+/// Reads the command line, the program's own name first. A request for help is an `Err` too.
+pub fn parse<'a>(alloc: Global, words: &'a [String]) -> Result<Request<'a>, Error> {
+    let mut command = command(alloc)?;
+    let matches = command.try_get_matches_from_mut(words)?;
+    match requested(&matches) {
+        Some(request) => Ok(request),
+        // Not reached: clap has seen to it that there is a subcommand and that it has its directory.
+        None => Err(command.error(ErrorKind::MissingSubcommand, "a command is missing")?),
+    }
+}

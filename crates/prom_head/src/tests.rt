@@ -1,0 +1,456 @@
+//! Runs of the program over a store in memory.
+
+use crate::program::{Outcome, run};
+use crate::shelf::Shelf;
+use crate::store::StoreFault;
+use std::alloc::{AllocError, Global};
+use std::process::Abort;
+
+// Each constant is a fragment that holds one whole record. Its checksum was computed apart from this program. In the
+// comments, s(1 a=b) is a record of the series a=b under the reference 1, and v(1,1000,5) v(1,1015,6) a record of two
+// samples under the reference 1, at the times 1000 and 1015 with the values 5 and 6.
+//
+// The first line is the header: the part, 1 for a whole record, the record's length and its checksum. The second is the
+// record's type. A series then has a line for its reference, and one for the number of its labels and their texts.
+// Samples have a line for the base, which is the reference and the time of the first one, and each sample has one for
+// its two differences from the base (doubled, less one where negative) and its value.
+
+// s(1 job=api)
+const SERIES_1_JOB_API: &[u8] = b"\x01\0\x12\x8d\xac\x90\x59\
+    \x01\
+    \0\0\0\0\0\0\0\x01\
+    \x01\x03job\x03api";
+
+// v(1,1000,5) v(1,1015,6)
+const SAMPLES_1_AT_1000_1015: &[u8] = b"\x01\0\x25\x88\x49\xd6\x7e\
+    \x02\
+    \0\0\0\0\0\0\0\x01\0\0\0\0\0\0\x03\xe8\
+    \x00\x00\0\0\0\0\0\0\0\x05\
+    \x00\x1e\0\0\0\0\0\0\0\x06";
+
+// s(1 a=b)
+const SERIES_1_A_B: &[u8] = b"\x01\0\x0e\x38\x37\x5e\xeb\
+    \x01\
+    \0\0\0\0\0\0\0\x01\
+    \x01\x01a\x01b";
+
+// v(1,1000,5)
+const SAMPLE_1_AT_1000: &[u8] = b"\x01\0\x1b\x06\x6d\x45\x7d\
+    \x02\
+    \0\0\0\0\0\0\0\x01\0\0\0\0\0\0\x03\xe8\
+    \x00\x00\0\0\0\0\0\0\0\x05";
+
+// v(1,2000,6)
+const SAMPLE_1_AT_2000: &[u8] = b"\x01\0\x1b\x9a\x75\x44\x3e\
+    \x02\
+    \0\0\0\0\0\0\0\x01\0\0\0\0\0\0\x07\xd0\
+    \x00\x00\0\0\0\0\0\0\0\x06";
+
+// s(3 a=x)
+const SERIES_3_A_X: &[u8] = b"\x01\0\x0e\x98\x07\x11\x7f\
+    \x01\
+    \0\0\0\0\0\0\0\x03\
+    \x01\x01a\x01x";
+
+// s(7 a=x)
+const SERIES_7_A_X: &[u8] = b"\x01\0\x0e\x2a\xf2\x26\x08\
+    \x01\
+    \0\0\0\0\0\0\0\x07\
+    \x01\x01a\x01x";
+
+// s(3 a=y)
+const SERIES_3_A_Y: &[u8] = b"\x01\0\x0e\x6a\x6c\x92\x7c\
+    \x01\
+    \0\0\0\0\0\0\0\x03\
+    \x01\x01a\x01y";
+
+// v(7,1000,5)
+const SAMPLE_7_AT_1000: &[u8] = b"\x01\0\x1b\x9e\xc2\x74\x3c\
+    \x02\
+    \0\0\0\0\0\0\0\x07\0\0\0\0\0\0\x03\xe8\
+    \x00\x00\0\0\0\0\0\0\0\x05";
+
+// v(3,1000,9)
+const SAMPLE_3_AT_1000: &[u8] = b"\x01\0\x1b\x3c\xb4\x65\x92\
+    \x02\
+    \0\0\0\0\0\0\0\x03\0\0\0\0\0\0\x03\xe8\
+    \x00\x00\0\0\0\0\0\0\0\x09";
+
+// The first time of all with the value 1, and by a difference of -1, which wraps, the last time of all with the value 2.
+const SAMPLES_1_AT_THE_ENDS: &[u8] = b"\x01\0\x25\xc1\xf9\xa2\x95\
+    \x02\
+    \0\0\0\0\0\0\0\x01\x80\0\0\0\0\0\0\0\
+    \x00\x00\0\0\0\0\0\0\0\x01\
+    \x00\x01\0\0\0\0\0\0\0\x02";
+
+// v(1,1000,5) v(1,1000,5) v(1,999,5) v(1,1001,6)
+const SAMPLES_1_OUT_OF_ORDER: &[u8] = b"\x01\0\x39\xe2\xef\x45\x6f\
+    \x02\
+    \0\0\0\0\0\0\0\x01\0\0\0\0\0\0\x03\xe8\
+    \x00\x00\0\0\0\0\0\0\0\x05\
+    \x00\x00\0\0\0\0\0\0\0\x05\
+    \x00\x01\0\0\0\0\0\0\0\x05\
+    \x00\x02\0\0\0\0\0\0\0\x06";
+
+// A record whose first byte, `1`, is no known type.
+const RECORD_OF_TYPE_49: &[u8] = b"\x01\0\x09\xe3\x06\x92\x83\
+    123456789";
+
+const RECORD_OF_NO_BYTES: &[u8] = b"\x01\0\0\0\0\0\0";
+
+const PAGE_LEN: usize = 32_768;
+
+const COUNT_NAMES: [&str; 12] = [
+    "series_records",
+    "sample_records",
+    "stone_records",
+    "skipped_records",
+    "series_entries",
+    "series",
+    "accepted",
+    "stale",
+    "unknown",
+    "hiding",
+    "empty_stones",
+    "unknown_stones",
+];
+
+// What `replay` prints for these counts, the others being 0.
+fn counts_text(alloc: Global, counts: &[(&str, usize)]) -> Result<String, AllocError> {
+    let mut text = String::new(alloc);
+    for name in COUNT_NAMES {
+        let count = counts.iter().find(|(n, _)| *n == name).map_or(0, |c| c.1);
+        writeln!(text, "{name} {count}")?;
+    }
+    text.push_str("damage none\n")?;
+    Ok(text)
+}
+
+// A store with a directory `log` that has these files.
+fn shelf_with(alloc: Global, files: &[(&str, &[u8])]) -> Result<Shelf, StoreFault> {
+    let mut shelf = Shelf::new(alloc)?;
+    shelf.put_dir("log")?;
+    for (name, bytes) in files {
+        shelf.put(&format!(in alloc; "log/{name}")?, bytes)?;
+    }
+    Ok(shelf)
+}
+
+// Runs the program on a line of words parted by spaces.
+fn run_line<R: AllocGlobal>(rt: &R, shelf: &mut Shelf, line: &str) -> Result<Outcome, AllocError> {
+    let alloc = rt.alloc();
+    let mut words = Vec::new(alloc);
+    for word in line.split(' ') {
+        words.push(String::from_str(alloc, word)?)?;
+    }
+    Ok(run(rt, shelf, &words))
+}
+
+// What is said of the run on standard error.
+fn complaint(alloc: Global, outcome: &Outcome) -> Result<String, AllocError> {
+    match &outcome.fault {
+        Some(fault) => fault.to_string(alloc),
+        None => Ok(String::new(alloc)),
+    }
+}
+
+fn assert_outcome<R: Abort + AllocGlobal>(
+    rt: &R,
+    case: &str,
+    outcome: &Outcome,
+    want: (u8, &str, &str),
+) -> Result<(), StoreFault> {
+    let said = complaint(rt.alloc(), outcome)?;
+    let (status, printed, complaint) = want;
+    assert_eq!(rt; outcome.status as u8, status, "{case}: {said}");
+    assert_eq!(rt; outcome.printed.as_str(), printed, "{case}");
+    assert_eq!(rt; said.as_str(), complaint, "{case}");
+    Ok(())
+}
+
+// Replays the files of a directory, where it is to print these counts.
+fn assert_counts<R: Abort + AllocGlobal>(
+    rt: &R,
+    case: &str,
+    files: &[(&str, &[u8])],
+    counts: &[(&str, usize)],
+) -> Result<(), StoreFault> {
+    let mut shelf = shelf_with(rt.alloc(), files)?;
+    let outcome = run_line(rt, &mut shelf, "prom_head replay log")?;
+    let printed = counts_text(rt.alloc(), counts)?;
+    assert_outcome(rt, case, &outcome, (0, &printed, ""))
+}
+
+// Replays one segment of these fragments.
+fn assert_replay<R: Abort + AllocGlobal>(
+    rt: &R,
+    fragments: &[&[u8]],
+    counts: &[(&str, usize)],
+) -> Result<(), StoreFault> {
+    let mut segment = Vec::new(rt.alloc());
+    for fragment in fragments {
+        segment.extend_from_slice(fragment)?;
+    }
+    assert_counts(rt, "one segment", &[("00000000", &segment)], counts)
+}
+
+#[test]
+fn empty_directory(rt: HostRuntime) -> Result<(), StoreFault> {
+    assert_counts(&rt, "no segment", &[], &[])
+}
+
+#[test]
+fn one_series_two_samples(rt: HostRuntime) -> Result<(), StoreFault> {
+    assert_replay(
+        &rt,
+        &[SERIES_1_JOB_API, SAMPLES_1_AT_1000_1015],
+        &[
+            ("series_records", 1),
+            ("sample_records", 1),
+            ("series_entries", 1),
+            ("series", 1),
+            ("accepted", 2),
+        ],
+    )
+}
+
+#[test]
+fn unknown_record_type(rt: HostRuntime) -> Result<(), StoreFault> {
+    assert_replay(&rt, &[RECORD_OF_TYPE_49], &[("skipped_records", 1)])
+}
+
+#[test]
+fn empty_record(rt: HostRuntime) -> Result<(), StoreFault> {
+    assert_replay(&rt, &[RECORD_OF_NO_BYTES], &[("skipped_records", 1)])
+}
+
+#[test]
+fn sample_before_its_series(rt: HostRuntime) -> Result<(), StoreFault> {
+    assert_replay(
+        &rt,
+        &[SAMPLE_1_AT_1000, SERIES_1_A_B, SAMPLE_1_AT_2000],
+        &[
+            ("series_records", 1),
+            ("sample_records", 2),
+            ("series_entries", 1),
+            ("series", 1),
+            ("accepted", 1),
+            ("unknown", 1),
+        ],
+    )
+}
+
+#[test]
+fn rebound_references(rt: HostRuntime) -> Result<(), StoreFault> {
+    assert_replay(
+        &rt,
+        &[
+            SERIES_3_A_X,
+            SERIES_7_A_X,
+            SERIES_3_A_Y,
+            SAMPLE_7_AT_1000,
+            SAMPLE_3_AT_1000,
+        ],
+        &[
+            ("series_records", 3),
+            ("sample_records", 2),
+            ("series_entries", 3),
+            ("series", 2),
+            ("accepted", 2),
+        ],
+    )
+}
+
+#[test]
+fn ends_of_time(rt: HostRuntime) -> Result<(), StoreFault> {
+    assert_replay(
+        &rt,
+        &[SERIES_1_A_B, SAMPLES_1_AT_THE_ENDS],
+        &[
+            ("series_records", 1),
+            ("sample_records", 1),
+            ("series_entries", 1),
+            ("series", 1),
+            ("accepted", 2),
+        ],
+    )
+}
+
+#[test]
+fn stale_samples(rt: HostRuntime) -> Result<(), StoreFault> {
+    assert_replay(
+        &rt,
+        &[SERIES_1_A_B, SAMPLES_1_OUT_OF_ORDER],
+        &[
+            ("series_records", 1),
+            ("sample_records", 1),
+            ("series_entries", 1),
+            ("series", 1),
+            ("accepted", 2),
+            ("stale", 2),
+        ],
+    )
+}
+
+fn assert_not_in_this_stage<R: Abort + AllocGlobal>(
+    rt: &R,
+    case: &str,
+    files: &[(&str, &[u8])],
+) -> Result<(), StoreFault> {
+    let mut shelf = shelf_with(rt.alloc(), files)?;
+    let outcome = run_line(rt, &mut shelf, "prom_head replay log")?;
+    assert_outcome(rt, case, &outcome, (3, "", "not in this stage"))
+}
+
+#[test]
+fn not_in_this_stage(rt: HostRuntime) -> Result<(), StoreFault> {
+    let good = ("00000000", RECORD_OF_NO_BYTES);
+    let checkpoint = ("checkpoint.00000004", RECORD_OF_NO_BYTES);
+    assert_not_in_this_stage(&rt, "a checkpoint", &[checkpoint])?;
+    assert_not_in_this_stage(&rt, "a checkpoint and a segment", &[good, checkpoint])?;
+    assert_not_in_this_stage(&rt, "two segments", &[good, ("00000001", b"")])?;
+    assert_not_in_this_stage(&rt, "two of one number", &[good, ("0", b"")])?;
+    assert_not_in_this_stage(&rt, "no fragment", &[("00000000", b"garbage")])?;
+    assert_not_in_this_stage(&rt, "no padding", &[("00000000", b"\0\0\0\x01")])?;
+    let zeros = vec![in rt.alloc(); 0u8; PAGE_LEN + 1]?;
+    assert_not_in_this_stage(&rt, "a page and a byte", &[("00000000", &zeros)])
+}
+
+#[test]
+fn directory_names(rt: HostRuntime) -> Result<(), StoreFault> {
+    for (name, skipped) in [
+        ("0", 1),
+        ("00000003", 1),
+        ("9999999999999999999", 1),
+        ("00000000000000000000", 0),
+        ("1a", 0),
+        ("-1", 0),
+        ("00000003.tmp", 0),
+        ("checkpoint", 0),
+        ("checkpoint.", 0),
+        ("checkpoint.00000004.tmp", 0),
+        ("checkpoint.00000000000000000000", 0),
+        ("Checkpoint.00000004", 0),
+    ] {
+        assert_counts(
+            &rt,
+            name,
+            &[(name, RECORD_OF_NO_BYTES)],
+            &[("skipped_records", skipped)],
+        )?;
+    }
+    Ok(())
+}
+
+#[test]
+fn wrong_arguments(rt: HostRuntime) -> Result<(), StoreFault> {
+    for (line, text) in [
+        (
+            "prom_head",
+            "error: 'prom_head' requires a subcommand but one was not provided\n",
+        ),
+        (
+            "prom_head records log",
+            "error: unrecognized subcommand 'records'\n",
+        ),
+        ("prom_head help", "error: unrecognized subcommand 'help'\n"),
+        (
+            "prom_head --version",
+            "error: unexpected argument '--version' found\n",
+        ),
+        (
+            "prom_head replay",
+            "error: the following required arguments were not provided:\n  <DIR>\n",
+        ),
+        (
+            "prom_head replay log more",
+            "error: unexpected argument 'more' found\n",
+        ),
+        (
+            "prom_head replay log --workers=4",
+            "error: unexpected argument '--workers' found\n",
+        ),
+    ] {
+        let mut shelf = shelf_with(rt.alloc(), &[("00000000", RECORD_OF_NO_BYTES)])?;
+        let outcome = run_line(&rt, &mut shelf, line)?;
+        let said = complaint(rt.alloc(), &outcome)?;
+        assert!(rt; said.starts_with(text), "{line}: {said}");
+        assert_outcome(&rt, line, &outcome, (2, "", &said))?;
+        assert_eq!(rt; shelf.calls()?, 0, "{line}");
+    }
+    Ok(())
+}
+
+const HELP: &str = "\
+Reads a write-ahead log of samples
+
+Usage: prom_head <COMMAND>
+
+Commands:
+  replay  Counts what the log holds
+
+Options:
+  -h, --help  Print help
+";
+
+const REPLAY_HELP: &str = "\
+Counts what the log holds
+
+Usage: prom_head replay <DIR>
+
+Arguments:
+  <DIR>  The directory of the log
+
+Options:
+  -h, --help  Print help
+";
+
+#[test]
+fn help(rt: HostRuntime) -> Result<(), StoreFault> {
+    for (line, text) in [
+        ("prom_head --help", HELP),
+        ("prom_head -h", HELP),
+        ("prom_head replay --help", REPLAY_HELP),
+        ("prom_head replay log -h", REPLAY_HELP),
+    ] {
+        let mut shelf = shelf_with(rt.alloc(), &[("00000000", RECORD_OF_NO_BYTES)])?;
+        let outcome = run_line(&rt, &mut shelf, line)?;
+        assert_outcome(&rt, line, &outcome, (0, text, ""))?;
+        assert_eq!(rt; shelf.calls()?, 0, "{line}");
+    }
+    Ok(())
+}
+
+#[test]
+fn each_call_fails(rt: HostRuntime) -> Result<(), StoreFault> {
+    let counts = counts_text(rt.alloc(), &[("skipped_records", 1)])?;
+    for (call, fault, want) in [
+        (1, StoreFault::Refused, (3, "", "cannot read log")),
+        (2, StoreFault::Refused, (3, "", "cannot read log/00000000")),
+        (1, StoreFault::OutOfMemory, (4, "", "out of memory")),
+        (2, StoreFault::OutOfMemory, (4, "", "out of memory")),
+        // there is no third call
+        (3, StoreFault::Refused, (0, counts.as_str(), "")),
+    ] {
+        let mut shelf = shelf_with(rt.alloc(), &[("00000000", RECORD_OF_NO_BYTES)])?;
+        shelf.fail(call, fault)?;
+        let outcome = run_line(&rt, &mut shelf, "prom_head replay log")?;
+        let case = format!(in rt.alloc(); "call {call}, {fault:?}")?;
+        assert_outcome(&rt, &case, &outcome, want)?;
+        assert_eq!(rt; shelf.calls()?, call.min(2), "{case}");
+    }
+    Ok(())
+}
+
+#[test]
+fn no_such_directory(rt: HostRuntime) -> Result<(), StoreFault> {
+    for (line, text) in [
+        ("prom_head replay nowhere", "cannot read nowhere"),
+        ("prom_head replay ", "cannot read "),
+    ] {
+        let mut shelf = shelf_with(rt.alloc(), &[])?;
+        let outcome = run_line(&rt, &mut shelf, line)?;
+        assert_outcome(&rt, line, &outcome, (3, "", text))?;
+    }
+    Ok(())
+}
