@@ -1,5 +1,5 @@
 -- What the plain head keeps while it reads. Only private functions cite this file.
-use Rattle.std.specs.Prelude.{ℕ, ℤ, int_le, ◌==◌, ◌&&◌, List, [], ◌∷◌, ◌++◌, Option, None, Some, Bool, if◌then◌else◌}
+use Rattle.std.specs.Prelude.{ℕ, ℤ, ◌==◌, ◌&&◌, List, [], ◌∷◌, ◌++◌, Option, None, Some, Bool, if◌then◌else◌}
 use Rattle.std.specs.List.{flat_map, fold, list_any}
 use Rattle.hw_bytes.specs.Lists.{last_found, if_new}
 use Rattle.wal_record.specs.declared.record.SampleEntry.{SampleEntry}

@@ -98,6 +98,59 @@ const RECORD_OF_TYPE_49: &[u8] = b"\x01\0\x09\xe3\x06\x92\x83\
 
 const RECORD_OF_NO_BYTES: &[u8] = b"\x01\0\0\0\0\0\0";
 
+// s(1 a=b) with the number of its labels in two bytes and the length of its name in three.
+const SERIES_1_IN_LONG_NUMBERS: &[u8] = b"\x01\0\x11\x81\xaf\xd9\x7f\
+    \x01\
+    \0\0\0\0\0\0\0\x01\
+    \x81\0\x81\x80\0a\x01b";
+
+// A series with 2^64 or more labels, which no number says.
+const SERIES_OF_TOO_GREAT_A_COUNT: &[u8] = b"\x01\0\x13\x6d\xf6\x0c\xee\
+    \x01\
+    \0\0\0\0\0\0\0\x01\
+    \xff\xff\xff\xff\xff\xff\xff\xff\xff\x02";
+
+// A series whose number of labels has no last byte.
+const SERIES_OF_A_COUNT_WITHOUT_END: &[u8] = b"\x01\0\x0a\xb9\xdf\x28\xc1\
+    \x01\
+    \0\0\0\0\0\0\0\x01\
+    \x80";
+
+// A series without labels.
+const SERIES_1_WITHOUT_LABELS: &[u8] = b"\x01\0\x0a\x3b\x29\x13\xb9\
+    \x01\
+    \0\0\0\0\0\0\0\x01\
+    \0";
+
+// The series of the reference 2 whose label a has no bytes.
+const SERIES_2_A_EMPTY: &[u8] = b"\x01\0\x0d\x17\x91\xc7\x6e\
+    \x01\
+    \0\0\0\0\0\0\0\x02\
+    \x01\x01a\0";
+
+// A label whose name has no bytes.
+const SERIES_OF_AN_EMPTY_NAME: &[u8] = b"\x01\0\x0d\xfa\x82\x23\x77\
+    \x01\
+    \0\0\0\0\0\0\0\x01\
+    \x01\0\x01b";
+
+// Two labels a.
+const SERIES_OF_EQUAL_NAMES: &[u8] = b"\x01\0\x12\x4b\x79\x31\xfc\
+    \x01\
+    \0\0\0\0\0\0\0\x01\
+    \x02\x01a\x01x\x01a\x01y";
+
+// A label b and then a label a.
+const SERIES_OF_DESCENDING_NAMES: &[u8] = b"\x01\0\x12\xf3\x7c\x44\xa4\
+    \x01\
+    \0\0\0\0\0\0\0\x01\
+    \x02\x01b\x01x\x01a\x01y";
+
+// A record of samples with a byte behind its type that is no base.
+const SAMPLES_WITH_A_BYTE_LEFT_OVER: &[u8] = b"\x01\0\x02\xd6\x24\x47\x3c\
+    \x02\
+    \0";
+
 const PAGE_LEN: usize = 32_768;
 
 const COUNT_NAMES: [&str; 12] = [
@@ -314,6 +367,58 @@ fn not_in_this_stage(rt: HostRuntime) -> Result<(), StoreFault> {
     assert_not_in_this_stage(&rt, "no padding", &[("00000000", b"\0\0\0\x01")])?;
     let zeros = vec![in rt.alloc(); 0u8; PAGE_LEN + 1]?;
     assert_not_in_this_stage(&rt, "a page and a byte", &[("00000000", &zeros)])
+}
+
+// A number may take more bytes than it needs, but not more than ten, nor more than 64 bits, nor have no end.
+#[test]
+fn number_spellings(rt: HostRuntime) -> Result<(), StoreFault> {
+    assert_replay(
+        &rt,
+        &[SERIES_1_IN_LONG_NUMBERS, SERIES_1_A_B, SAMPLE_1_AT_1000],
+        &[
+            ("series_records", 2),
+            ("sample_records", 1),
+            ("series_entries", 2),
+            ("series", 1),
+            ("accepted", 1),
+        ],
+    )?;
+    assert_not_in_this_stage(
+        &rt,
+        "past 64 bits",
+        &[("00000000", SERIES_OF_TOO_GREAT_A_COUNT)],
+    )?;
+    assert_not_in_this_stage(
+        &rt,
+        "without end",
+        &[("00000000", SERIES_OF_A_COUNT_WITHOUT_END)],
+    )
+}
+
+// A set and a value may be empty. A name may not, and names ascend.
+#[test]
+fn label_sets(rt: HostRuntime) -> Result<(), StoreFault> {
+    assert_replay(
+        &rt,
+        &[SERIES_1_WITHOUT_LABELS, SERIES_2_A_EMPTY],
+        &[("series_records", 2), ("series_entries", 2), ("series", 2)],
+    )?;
+    assert_not_in_this_stage(
+        &rt,
+        "an empty name",
+        &[("00000000", SERIES_OF_AN_EMPTY_NAME)],
+    )?;
+    assert_not_in_this_stage(&rt, "equal names", &[("00000000", SERIES_OF_EQUAL_NAMES)])?;
+    assert_not_in_this_stage(
+        &rt,
+        "descending names",
+        &[("00000000", SERIES_OF_DESCENDING_NAMES)],
+    )?;
+    assert_not_in_this_stage(
+        &rt,
+        "a byte left over",
+        &[("00000000", SAMPLES_WITH_A_BYTE_LEFT_OVER)],
+    )
 }
 
 #[test]
