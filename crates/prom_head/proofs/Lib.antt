@@ -1,3 +1,4 @@
 pub mod Meaning
 pub mod Steps
-pub mod Pages
+pub mod Pieces
+pub mod NameLaws

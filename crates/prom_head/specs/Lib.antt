@@ -2,5 +2,5 @@ pub mod Names
 pub mod Owners
 pub mod Items
 pub mod Counts
-pub mod Page
+pub mod Replay
 pub mod Lists

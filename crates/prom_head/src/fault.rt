@@ -15,6 +15,8 @@ use thiserror::Error;
 #[derive(Clone, Copy, Debug, PartialEq, Eq)]
 pub enum Status {
     Done = 0,
+    /// The log is damaged. What stands before the damage was printed.
+    Damaged = 1,
     /// The arguments are wrong. Nothing was read.
     Usage = 2,
     /// Input or output failed, or what was asked cannot be done.

@@ -153,6 +153,18 @@ const SAMPLES_WITH_A_BYTE_LEFT_OVER: &[u8] = b"\x01\0\x02\xd6\x24\x47\x3c\
 
 const PAGE_LEN: usize = 32_768;
 
+// The headers of a fragment of this many bytes: a first part of 0x63 and zeros, the same as a whole record, and a last part
+// of zeros.
+const FIRST_OF_32_761: &[u8] = b"\x02\x7f\xf9\x55\x5f\x0b\xba";
+
+const FULL_OF_32_761: &[u8] = b"\x01\x7f\xf9\x55\x5f\x0b\xba";
+
+const LAST_OF_7_239: &[u8] = b"\x04\x1c\x47\xf5\x24\x58\x13";
+
+// A record of samples in two parts, of which the last, a zero byte, is left over.
+const BAD_RECORD_IN_TWO_PARTS: &[u8] =
+    b"\x02\0\x01\xb3\x46\x23\xa6\x02\x04\0\x01\x52\x7d\x53\x51\0";
+
 const COUNT_NAMES: [&str; 12] = [
     "series_records",
     "sample_records",
@@ -168,14 +180,18 @@ const COUNT_NAMES: [&str; 12] = [
     "unknown_stones",
 ];
 
-// What `replay` prints for these counts, the others being 0.
-fn counts_text(alloc: Global, counts: &[(&str, usize)]) -> Result<String, AllocError> {
+// What `replay` prints for these counts, the others being 0, and this damage.
+fn replay_text(
+    alloc: Global,
+    counts: &[(&str, usize)],
+    damage: &str,
+) -> Result<String, AllocError> {
     let mut text = String::new(alloc);
     for name in COUNT_NAMES {
         let count = counts.iter().find(|(n, _)| *n == name).map_or(0, |c| c.1);
         writeln!(text, "{name} {count}")?;
     }
-    text.push_str("damage none\n")?;
+    writeln!(text, "damage {damage}")?;
     Ok(text)
 }
 
@@ -230,8 +246,32 @@ fn assert_counts<R: Abort + AllocGlobal>(
 ) -> Result<(), StoreFault> {
     let mut shelf = shelf_with(rt.alloc(), files)?;
     let outcome = run_line(rt, &mut shelf, "prom_head replay log")?;
-    let printed = counts_text(rt.alloc(), counts)?;
+    let printed = replay_text(rt.alloc(), counts, "none")?;
     assert_outcome(rt, case, &outcome, (0, &printed, ""))
+}
+
+// Replays one segment, where it is to print these counts and this damage of it: `offset O kind N NAME`.
+fn assert_damage<R: Abort + AllocGlobal>(
+    rt: &R,
+    case: &str,
+    bytes: &[u8],
+    counts: &[(&str, usize)],
+    damage: &str,
+) -> Result<(), StoreFault> {
+    let alloc = rt.alloc();
+    let mut shelf = shelf_with(alloc, &[("00000000", bytes)])?;
+    let outcome = run_line(rt, &mut shelf, "prom_head replay log")?;
+    let line = format!(in alloc; "segment 00000000 {damage}")?;
+    let printed = replay_text(alloc, counts, &line)?;
+    assert_outcome(rt, case, &outcome, (1, &printed, ""))
+}
+
+fn joined(alloc: Global, parts: &[&[u8]]) -> Result<Vec<u8>, AllocError> {
+    let mut bytes = Vec::new(alloc);
+    for part in parts {
+        bytes.extend_from_slice(part)?;
+    }
+    Ok(bytes)
 }
 
 // Replays one segment of these fragments.
@@ -240,10 +280,7 @@ fn assert_replay<R: Abort + AllocGlobal>(
     fragments: &[&[u8]],
     counts: &[(&str, usize)],
 ) -> Result<(), StoreFault> {
-    let mut segment = Vec::new(rt.alloc());
-    for fragment in fragments {
-        segment.extend_from_slice(fragment)?;
-    }
+    let segment = joined(rt.alloc(), fragments)?;
     assert_counts(rt, "one segment", &[("00000000", &segment)], counts)
 }
 
@@ -345,6 +382,163 @@ fn stale_samples(rt: HostRuntime) -> Result<(), StoreFault> {
     )
 }
 
+// A record of 0x63 and 39,999 zeros.
+fn split_segment(alloc: Global) -> Result<Vec<u8>, AllocError> {
+    let first = vec![in alloc; 0u8; 32_760]?;
+    let last = vec![in alloc; 0u8; 7_239]?;
+    joined(
+        alloc,
+        &[FIRST_OF_32_761, b"\x63", &first, LAST_OF_7_239, &last],
+    )
+}
+
+#[test]
+fn split_record(rt: HostRuntime) -> Result<(), StoreFault> {
+    let mut bytes = split_segment(rt.alloc())?;
+    assert_eq!(rt; bytes.len(), 40_014);
+    assert_counts(
+        &rt,
+        "whole",
+        &[("00000000", &bytes)],
+        &[("skipped_records", 1)],
+    )?;
+    if let Some(byte) = bytes.last_mut() {
+        *byte = 1;
+    }
+    assert_damage(&rt, "changed", &bytes, &[], "offset 32768 kind 7 BadSum")?;
+    bytes.truncate(PAGE_LEN);
+    assert_damage(&rt, "cut", &bytes, &[], "offset 32768 kind 6 Torn")
+}
+
+// Six pages of one record each; then with a byte of data changed in the third page and in the sixth.
+#[test]
+fn six_pages(rt: HostRuntime) -> Result<(), StoreFault> {
+    let alloc = rt.alloc();
+    let zeros = vec![in alloc; 0u8; 32_760]?;
+    let mut bytes = Vec::new(alloc);
+    for _ in 0..6 {
+        bytes.extend_from_slice(FULL_OF_32_761)?;
+        bytes.push(0x63)?;
+        bytes.extend_from_slice(&zeros)?;
+    }
+    assert_counts(
+        &rt,
+        "whole",
+        &[("00000000", &bytes)],
+        &[("skipped_records", 6)],
+    )?;
+    for place in [65_636, 163_940] {
+        if let Some(byte) = bytes.get_mut(place) {
+            *byte = 1;
+        }
+    }
+    let counts = [("skipped_records", 2)];
+    assert_damage(
+        &rt,
+        "changed",
+        &bytes,
+        &counts,
+        "offset 65536 kind 7 BadSum",
+    )
+}
+
+#[test]
+fn zero_record_is_no_pad(rt: HostRuntime) -> Result<(), StoreFault> {
+    let zeros = joined(rt.alloc(), &[b"\x01\0\x20\x8a\x91\x36\xaa", &[0; 32]])?;
+    assert_counts(
+        &rt,
+        "32 zeros",
+        &[("00000000", &zeros)],
+        &[("skipped_records", 1)],
+    )?;
+    let wrong = joined(rt.alloc(), &[b"\x01\0\x20\x8a\x91\x36\xab", &[0; 32]])?;
+    assert_damage(&rt, "another sum", &wrong, &[], "offset 0 kind 7 BadSum")
+}
+
+// A crash cuts the segment off: what stands before the cut record counts.
+#[test]
+fn cut_segments(rt: HostRuntime) -> Result<(), StoreFault> {
+    let whole = joined(rt.alloc(), &[SERIES_1_JOB_API, SAMPLES_1_AT_1000_1015])?;
+    let series = [("series_records", 1), ("series_entries", 1), ("series", 1)];
+    let torn = "offset 25 kind 6 Torn";
+    for length in [26, 28, 32, 40, 68] {
+        let cut = whole.get(..length).unwrap_or(&[]);
+        assert_damage(&rt, "cut", cut, &series, torn)?;
+    }
+    for length in [1, 6, 7, 24] {
+        let cut = whole.get(..length).unwrap_or(&[]);
+        assert_damage(&rt, "cut", cut, &[], "offset 0 kind 6 Torn")?;
+    }
+    assert_replay(&rt, &[SERIES_1_JOB_API], &series)?;
+    let all = [
+        ("series_records", 1),
+        ("sample_records", 1),
+        ("series_entries", 1),
+        ("series", 1),
+        ("accepted", 2),
+    ];
+    assert_replay(&rt, &[&whole, &[0; 31]], &all)
+}
+
+// The unknown record by its first byte, and what is too short or too long for a page or for the file.
+#[test]
+fn fault_kinds(rt: HostRuntime) -> Result<(), StoreFault> {
+    for (first, damage) in [
+        (0x21, "offset 0 kind 1 Reserved"),
+        (0x29, "offset 0 kind 1 Reserved"),
+        (0x09, "offset 0 kind 2 Compressed"),
+        (0x0e, "offset 0 kind 2 Compressed"),
+        (0x06, "offset 0 kind 3 BadType"),
+        (0x00, "offset 0 kind 4 BadPad"),
+        (0x03, "offset 0 kind 8 Sequence"),
+        (0x04, "offset 0 kind 8 Sequence"),
+        (0x02, "offset 16 kind 6 Torn"),
+    ] {
+        let mut bytes = Vec::from_slice(rt.alloc(), RECORD_OF_TYPE_49)?;
+        if let Some(byte) = bytes.first_mut() {
+            *byte = first;
+        }
+        assert_damage(&rt, damage, &bytes, &[], damage)?;
+    }
+    assert_damage(&rt, "pad", b"\0\0\0\x01", &[], "offset 0 kind 4 BadPad")?;
+    let crossing = b"\x01\x80\0\0\0\0\0";
+    assert_damage(&rt, "crossing", crossing, &[], "offset 0 kind 5 Crosses")?;
+    let torn = b"\x01\0\x09\xe3\x06\x92\x8312345";
+    assert_damage(&rt, "torn", torn, &[], "offset 0 kind 6 Torn")
+}
+
+// The records before a bad one count, and a bad one stands at its first header, also where it has several parts.
+#[test]
+fn bad_records(rt: HostRuntime) -> Result<(), StoreFault> {
+    let series = [("series_records", 1), ("series_entries", 1), ("series", 1)];
+    for (case, bad) in [
+        ("whole", SAMPLES_WITH_A_BYTE_LEFT_OVER),
+        ("in two parts", BAD_RECORD_IN_TWO_PARTS),
+    ] {
+        let bytes = joined(rt.alloc(), &[SERIES_1_JOB_API, bad, SAMPLE_1_AT_1000])?;
+        assert_damage(&rt, case, &bytes, &series, "offset 25 kind 9 BadRecord")?;
+    }
+    Ok(())
+}
+
+// The segment goes by its number, in at least eight digits.
+#[test]
+fn segment_numbers(rt: HostRuntime) -> Result<(), StoreFault> {
+    let alloc = rt.alloc();
+    for (name, digits) in [
+        ("3", "00000003"),
+        ("0000000000000000012", "00000012"),
+        ("9999999999999999999", "9999999999999999999"),
+    ] {
+        let mut shelf = shelf_with(alloc, &[(name, b"\x06")])?;
+        let outcome = run_line(&rt, &mut shelf, "prom_head replay log")?;
+        let line = format!(in alloc; "segment {digits} offset 0 kind 3 BadType")?;
+        let printed = replay_text(alloc, &[], &line)?;
+        assert_outcome(&rt, name, &outcome, (1, &printed, ""))?;
+    }
+    Ok(())
+}
+
 fn assert_not_in_this_stage<R: Abort + AllocGlobal>(
     rt: &R,
     case: &str,
@@ -362,11 +556,7 @@ fn not_in_this_stage(rt: HostRuntime) -> Result<(), StoreFault> {
     assert_not_in_this_stage(&rt, "a checkpoint", &[checkpoint])?;
     assert_not_in_this_stage(&rt, "a checkpoint and a segment", &[good, checkpoint])?;
     assert_not_in_this_stage(&rt, "two segments", &[good, ("00000001", b"")])?;
-    assert_not_in_this_stage(&rt, "two of one number", &[good, ("0", b"")])?;
-    assert_not_in_this_stage(&rt, "no fragment", &[("00000000", b"garbage")])?;
-    assert_not_in_this_stage(&rt, "no padding", &[("00000000", b"\0\0\0\x01")])?;
-    let zeros = vec![in rt.alloc(); 0u8; PAGE_LEN + 1]?;
-    assert_not_in_this_stage(&rt, "a page and a byte", &[("00000000", &zeros)])
+    assert_not_in_this_stage(&rt, "two of one number", &[good, ("0", b"")])
 }
 
 // A number may take more bytes than it needs, but not more than ten, nor more than 64 bits, nor have no end.
@@ -383,15 +573,19 @@ fn number_spellings(rt: HostRuntime) -> Result<(), StoreFault> {
             ("accepted", 1),
         ],
     )?;
-    assert_not_in_this_stage(
+    assert_damage(
         &rt,
         "past 64 bits",
-        &[("00000000", SERIES_OF_TOO_GREAT_A_COUNT)],
+        SERIES_OF_TOO_GREAT_A_COUNT,
+        &[],
+        "offset 0 kind 9 BadRecord",
     )?;
-    assert_not_in_this_stage(
+    assert_damage(
         &rt,
         "without end",
-        &[("00000000", SERIES_OF_A_COUNT_WITHOUT_END)],
+        SERIES_OF_A_COUNT_WITHOUT_END,
+        &[],
+        "offset 0 kind 9 BadRecord",
     )
 }
 
@@ -403,21 +597,33 @@ fn label_sets(rt: HostRuntime) -> Result<(), StoreFault> {
         &[SERIES_1_WITHOUT_LABELS, SERIES_2_A_EMPTY],
         &[("series_records", 2), ("series_entries", 2), ("series", 2)],
     )?;
-    assert_not_in_this_stage(
+    assert_damage(
         &rt,
         "an empty name",
-        &[("00000000", SERIES_OF_AN_EMPTY_NAME)],
+        SERIES_OF_AN_EMPTY_NAME,
+        &[],
+        "offset 0 kind 9 BadRecord",
     )?;
-    assert_not_in_this_stage(&rt, "equal names", &[("00000000", SERIES_OF_EQUAL_NAMES)])?;
-    assert_not_in_this_stage(
+    assert_damage(
+        &rt,
+        "equal names",
+        SERIES_OF_EQUAL_NAMES,
+        &[],
+        "offset 0 kind 9 BadRecord",
+    )?;
+    assert_damage(
         &rt,
         "descending names",
-        &[("00000000", SERIES_OF_DESCENDING_NAMES)],
+        SERIES_OF_DESCENDING_NAMES,
+        &[],
+        "offset 0 kind 9 BadRecord",
     )?;
-    assert_not_in_this_stage(
+    assert_damage(
         &rt,
         "a byte left over",
-        &[("00000000", SAMPLES_WITH_A_BYTE_LEFT_OVER)],
+        SAMPLES_WITH_A_BYTE_LEFT_OVER,
+        &[],
+        "offset 0 kind 9 BadRecord",
     )
 }
 
@@ -528,7 +734,7 @@ fn help(rt: HostRuntime) -> Result<(), StoreFault> {
 
 #[test]
 fn each_call_fails(rt: HostRuntime) -> Result<(), StoreFault> {
-    let counts = counts_text(rt.alloc(), &[("skipped_records", 1)])?;
+    let counts = replay_text(rt.alloc(), &[("skipped_records", 1)], "none")?;
     for (call, fault, want) in [
         (1, StoreFault::Refused, (3, "", "cannot read log")),
         (2, StoreFault::Refused, (3, "", "cannot read log/00000000")),
