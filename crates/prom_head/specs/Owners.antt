@@ -4,7 +4,7 @@ use Rattle.std.specs.List.{flat_map}
 use Rattle.hw_bytes.specs.Lists.{distinct, last_found}
 use Rattle.wal_record.specs.declared.labels.Label.{Label}
 use Rattle.wal_record.specs.Labels.{same_labels}
-use Rattle.wal_record.specs.Entries.{Entry, series, sample}
+use Rattle.wal_record.specs.Entries.{Entry, series, sample, stone}
 
 -- a label set
 abbrev pub Labels : Type 0
@@ -14,6 +14,7 @@ Labels = List Label
 abbrev pub bound_by : ℕ → Entry → Option Labels
 bound_by r (series e) = if e.reference == r then Some e.labels else None
 bound_by r (sample s) = None
+bound_by r (stone e) = None
 
 -- The owner of a reference behind these entries: the labels of the last series entry for it, or none.
 abbrev pub owner : List Entry → ℕ → Option Labels
@@ -23,6 +24,7 @@ owner es r = last_found (bound_by r) es
 abbrev pub label_set : Entry → List Labels
 label_set (series e) = e.labels ∷ []
 label_set (sample s) = []
+label_set (stone e) = []
 
 -- The series: the distinct label sets of the series entries, by first place. A slot is a place in this list.
 abbrev pub series_of : List Entry → List Labels

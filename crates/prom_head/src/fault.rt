@@ -3,13 +3,16 @@
 ghost use Rattle.std.specs.Prelude.{◌≡◌, ◌↔◌};
 ghost use Rattle.clap.specs.Values.{kind_of};
 ghost use Rattle.clap.specs.declared.error.kind.ErrorKind.TheVariants as kind;
-ghost use Rattle.prom_head.specs.declared.fault.Fault.TheVariants.{OutOfMemory};
+ghost use Rattle.wal_log.specs.declared.plan.PlanFault.TheVariants as plan;
+ghost use Rattle.wal_log.specs.declared.input.InputFault.TheVariants as input;
+ghost use Rattle.prom_head.specs.declared.fault.Fault.TheVariants.{OutOfMemory, TooLarge};
 
 use crate::store::StoreFault;
 use clap::error::ErrorKind;
 use std::alloc::{AllocError, AllocFailed, Global};
 use std::process::ExitCode;
 use thiserror::Error;
+use wal_log::{InputFault, InputRefused, PlanFault};
 
 /// The program's exit status.
 #[derive(Clone, Copy, Debug, PartialEq, Eq)]
@@ -42,9 +45,12 @@ pub enum Fault {
     CannotRead { path: String },
     #[error("cannot write standard output")]
     CannotPrint,
-    /// The directory holds what the program does not read yet.
-    #[error("not in this stage")]
-    Unsupported,
+    /// A number is missing between two files of the log, or two files have one number.
+    #[error("gap in segment numbers")]
+    Gap,
+    /// All files of the log together have 2^64 bytes or more.
+    #[error("too large")]
+    TooLarge,
     #[error("out of memory")]
     OutOfMemory,
 }
@@ -61,7 +67,8 @@ impl Fault {
     pub fn status(&self) -> Status {
         match self {
             Fault::Usage(_) | Fault::NotUtf8 => Status::Usage,
-            Fault::CannotRead { .. } | Fault::CannotPrint | Fault::Unsupported => Status::Refused,
+            Fault::CannotRead { .. } | Fault::CannotPrint | Fault::Gap | Fault::TooLarge =>
+                Status::Refused,
             Fault::OutOfMemory => Status::OutOfMemory,
         }
     }
@@ -74,6 +81,29 @@ impl From<clap::Error> for Fault {
         match error.kind() {
             ErrorKind::OutOfMemory => Fault::OutOfMemory,
             _ => Fault::Usage(error),
+        }
+    }
+}
+
+impl From<PlanFault> for Fault {
+    ghost from_gives = { λ e f. (f ≡ OutOfMemory) ↔ (e ≡ plan.Memory) };
+
+    fn from(fault: PlanFault) -> Fault {
+        match fault {
+            PlanFault::Gap => Fault::Gap,
+            PlanFault::Memory => Fault::OutOfMemory,
+        }
+    }
+}
+
+impl From<InputRefused> for Fault {
+    ghost from_gives = { λ e f. (f ≡ TooLarge) ↔ (e.fault ≡ input.TooLong) };
+
+    fn from(refused: InputRefused) -> Fault {
+        match refused.fault {
+            InputFault::TooLong => Fault::TooLarge,
+            // a plan has no segment at or below its checkpoint
+            InputFault::BelowCheckpoint | InputFault::Gap => Fault::Gap,
         }
     }
 }

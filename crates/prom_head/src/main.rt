@@ -1,12 +1,13 @@
 //! Reads the write-ahead log of a time series database and prints what it holds.
 #![tactic(auto)]
 
+mod directory;
 mod disk;
 mod fault;
-mod names;
 mod options;
 mod plain;
 mod program;
+mod report;
 #[cfg(test)]
 mod shelf;
 mod store;

@@ -9,6 +9,8 @@ use std::alloc::{AllocError, Global};
 pub enum Request<'a> {
     /// To count what the log in a directory holds.
     Replay { dir: &'a str },
+    /// To list the records of the log in a directory.
+    Records { dir: &'a str },
 }
 
 // These take the lifetime of the words, though their own texts are static, since the borrow checker does not shorten a
@@ -27,17 +29,27 @@ fn replay<'a>(alloc: Global) -> Result<Command<'a>, AllocError> {
         .arg(dir(alloc))
 }
 
+fn records<'a>(alloc: Global) -> Result<Command<'a>, AllocError> {
+    Command::new(alloc, "records")
+        .about("Lists the records of the log")
+        .arg(dir(alloc))
+}
+
 fn command<'a>(alloc: Global) -> Result<Command<'a>, AllocError> {
     Command::new(alloc, "prom_head")
         .about("Reads a write-ahead log of samples")
         .subcommand_required(true)
         .disable_help_subcommand(true)
-        .subcommand(replay(alloc)?)
+        .subcommand(replay(alloc)?)?
+        .subcommand(records(alloc)?)
 }
 
 fn requested<'a>(matches: &ArgMatches<'a>) -> Option<Request<'a>> {
     match matches.subcommand()? {
         ("replay", of) => Some(Request::Replay {
+            dir: of.get_str("dir")?,
+        }),
+        ("records", of) => Some(Request::Records {
             dir: of.get_str("dir")?,
         }),
         _ => None,

@@ -1,169 +1,16 @@
 //! Runs of the program over a store in memory.
 
+mod fragments;
+mod usage;
+
 use crate::program::{Outcome, run};
 use crate::shelf::Shelf;
 use crate::store::StoreFault;
+use fragments::*;
 use std::alloc::{AllocError, Global};
 use std::process::Abort;
 
-// Each constant is a fragment that holds one whole record. Its checksum was computed apart from this program. In the
-// comments, s(1 a=b) is a record of the series a=b under the reference 1, and v(1,1000,5) v(1,1015,6) a record of two
-// samples under the reference 1, at the times 1000 and 1015 with the values 5 and 6.
-//
-// The first line is the header: the part, 1 for a whole record, the record's length and its checksum. The second is the
-// record's type. A series then has a line for its reference, and one for the number of its labels and their texts.
-// Samples have a line for the base, which is the reference and the time of the first one, and each sample has one for
-// its two differences from the base (doubled, less one where negative) and its value.
-
-// s(1 job=api)
-const SERIES_1_JOB_API: &[u8] = b"\x01\0\x12\x8d\xac\x90\x59\
-    \x01\
-    \0\0\0\0\0\0\0\x01\
-    \x01\x03job\x03api";
-
-// v(1,1000,5) v(1,1015,6)
-const SAMPLES_1_AT_1000_1015: &[u8] = b"\x01\0\x25\x88\x49\xd6\x7e\
-    \x02\
-    \0\0\0\0\0\0\0\x01\0\0\0\0\0\0\x03\xe8\
-    \x00\x00\0\0\0\0\0\0\0\x05\
-    \x00\x1e\0\0\0\0\0\0\0\x06";
-
-// s(1 a=b)
-const SERIES_1_A_B: &[u8] = b"\x01\0\x0e\x38\x37\x5e\xeb\
-    \x01\
-    \0\0\0\0\0\0\0\x01\
-    \x01\x01a\x01b";
-
-// v(1,1000,5)
-const SAMPLE_1_AT_1000: &[u8] = b"\x01\0\x1b\x06\x6d\x45\x7d\
-    \x02\
-    \0\0\0\0\0\0\0\x01\0\0\0\0\0\0\x03\xe8\
-    \x00\x00\0\0\0\0\0\0\0\x05";
-
-// v(1,2000,6)
-const SAMPLE_1_AT_2000: &[u8] = b"\x01\0\x1b\x9a\x75\x44\x3e\
-    \x02\
-    \0\0\0\0\0\0\0\x01\0\0\0\0\0\0\x07\xd0\
-    \x00\x00\0\0\0\0\0\0\0\x06";
-
-// s(3 a=x)
-const SERIES_3_A_X: &[u8] = b"\x01\0\x0e\x98\x07\x11\x7f\
-    \x01\
-    \0\0\0\0\0\0\0\x03\
-    \x01\x01a\x01x";
-
-// s(7 a=x)
-const SERIES_7_A_X: &[u8] = b"\x01\0\x0e\x2a\xf2\x26\x08\
-    \x01\
-    \0\0\0\0\0\0\0\x07\
-    \x01\x01a\x01x";
-
-// s(3 a=y)
-const SERIES_3_A_Y: &[u8] = b"\x01\0\x0e\x6a\x6c\x92\x7c\
-    \x01\
-    \0\0\0\0\0\0\0\x03\
-    \x01\x01a\x01y";
-
-// v(7,1000,5)
-const SAMPLE_7_AT_1000: &[u8] = b"\x01\0\x1b\x9e\xc2\x74\x3c\
-    \x02\
-    \0\0\0\0\0\0\0\x07\0\0\0\0\0\0\x03\xe8\
-    \x00\x00\0\0\0\0\0\0\0\x05";
-
-// v(3,1000,9)
-const SAMPLE_3_AT_1000: &[u8] = b"\x01\0\x1b\x3c\xb4\x65\x92\
-    \x02\
-    \0\0\0\0\0\0\0\x03\0\0\0\0\0\0\x03\xe8\
-    \x00\x00\0\0\0\0\0\0\0\x09";
-
-// The first time of all with the value 1, and by a difference of -1, which wraps, the last time of all with the value 2.
-const SAMPLES_1_AT_THE_ENDS: &[u8] = b"\x01\0\x25\xc1\xf9\xa2\x95\
-    \x02\
-    \0\0\0\0\0\0\0\x01\x80\0\0\0\0\0\0\0\
-    \x00\x00\0\0\0\0\0\0\0\x01\
-    \x00\x01\0\0\0\0\0\0\0\x02";
-
-// v(1,1000,5) v(1,1000,5) v(1,999,5) v(1,1001,6)
-const SAMPLES_1_OUT_OF_ORDER: &[u8] = b"\x01\0\x39\xe2\xef\x45\x6f\
-    \x02\
-    \0\0\0\0\0\0\0\x01\0\0\0\0\0\0\x03\xe8\
-    \x00\x00\0\0\0\0\0\0\0\x05\
-    \x00\x00\0\0\0\0\0\0\0\x05\
-    \x00\x01\0\0\0\0\0\0\0\x05\
-    \x00\x02\0\0\0\0\0\0\0\x06";
-
-// A record whose first byte, `1`, is no known type.
-const RECORD_OF_TYPE_49: &[u8] = b"\x01\0\x09\xe3\x06\x92\x83\
-    123456789";
-
-const RECORD_OF_NO_BYTES: &[u8] = b"\x01\0\0\0\0\0\0";
-
-// s(1 a=b) with the number of its labels in two bytes and the length of its name in three.
-const SERIES_1_IN_LONG_NUMBERS: &[u8] = b"\x01\0\x11\x81\xaf\xd9\x7f\
-    \x01\
-    \0\0\0\0\0\0\0\x01\
-    \x81\0\x81\x80\0a\x01b";
-
-// A series with 2^64 or more labels, which no number says.
-const SERIES_OF_TOO_GREAT_A_COUNT: &[u8] = b"\x01\0\x13\x6d\xf6\x0c\xee\
-    \x01\
-    \0\0\0\0\0\0\0\x01\
-    \xff\xff\xff\xff\xff\xff\xff\xff\xff\x02";
-
-// A series whose number of labels has no last byte.
-const SERIES_OF_A_COUNT_WITHOUT_END: &[u8] = b"\x01\0\x0a\xb9\xdf\x28\xc1\
-    \x01\
-    \0\0\0\0\0\0\0\x01\
-    \x80";
-
-// A series without labels.
-const SERIES_1_WITHOUT_LABELS: &[u8] = b"\x01\0\x0a\x3b\x29\x13\xb9\
-    \x01\
-    \0\0\0\0\0\0\0\x01\
-    \0";
-
-// The series of the reference 2 whose label a has no bytes.
-const SERIES_2_A_EMPTY: &[u8] = b"\x01\0\x0d\x17\x91\xc7\x6e\
-    \x01\
-    \0\0\0\0\0\0\0\x02\
-    \x01\x01a\0";
-
-// A label whose name has no bytes.
-const SERIES_OF_AN_EMPTY_NAME: &[u8] = b"\x01\0\x0d\xfa\x82\x23\x77\
-    \x01\
-    \0\0\0\0\0\0\0\x01\
-    \x01\0\x01b";
-
-// Two labels a.
-const SERIES_OF_EQUAL_NAMES: &[u8] = b"\x01\0\x12\x4b\x79\x31\xfc\
-    \x01\
-    \0\0\0\0\0\0\0\x01\
-    \x02\x01a\x01x\x01a\x01y";
-
-// A label b and then a label a.
-const SERIES_OF_DESCENDING_NAMES: &[u8] = b"\x01\0\x12\xf3\x7c\x44\xa4\
-    \x01\
-    \0\0\0\0\0\0\0\x01\
-    \x02\x01b\x01x\x01a\x01y";
-
-// A record of samples with a byte behind its type that is no base.
-const SAMPLES_WITH_A_BYTE_LEFT_OVER: &[u8] = b"\x01\0\x02\xd6\x24\x47\x3c\
-    \x02\
-    \0";
-
 const PAGE_LEN: usize = 32_768;
-
-// The headers of a fragment of this many bytes: a first part of 0x63 and zeros, the same as a whole record, and a last part
-// of zeros.
-const FIRST_OF_32_761: &[u8] = b"\x02\x7f\xf9\x55\x5f\x0b\xba";
-
-const FULL_OF_32_761: &[u8] = b"\x01\x7f\xf9\x55\x5f\x0b\xba";
-
-const LAST_OF_7_239: &[u8] = b"\x04\x1c\x47\xf5\x24\x58\x13";
-
-// A record of samples in two parts, of which the last, a zero byte, is left over.
-const BAD_RECORD_IN_TWO_PARTS: &[u8] =
-    b"\x02\0\x01\xb3\x46\x23\xa6\x02\x04\0\x01\x52\x7d\x53\x51\0";
 
 const COUNT_NAMES: [&str; 12] = [
     "series_records",
@@ -539,24 +386,177 @@ fn segment_numbers(rt: HostRuntime) -> Result<(), StoreFault> {
     Ok(())
 }
 
-fn assert_not_in_this_stage<R: Abort + AllocGlobal>(
-    rt: &R,
-    case: &str,
+// A store with a directory `log` that has these files, and in it the checkpoint 4 with these.
+fn shelf_with_checkpoint(
+    alloc: Global,
     files: &[(&str, &[u8])],
-) -> Result<(), StoreFault> {
-    let mut shelf = shelf_with(rt.alloc(), files)?;
-    let outcome = run_line(rt, &mut shelf, "prom_head replay log")?;
-    assert_outcome(rt, case, &outcome, (3, "", "not in this stage"))
+    checkpoint_files: &[(&str, &[u8])],
+) -> Result<Shelf, StoreFault> {
+    let mut shelf = shelf_with(alloc, files)?;
+    shelf.put_dir("log/checkpoint.00000004")?;
+    for (name, bytes) in checkpoint_files {
+        let path = format!(in alloc; "log/checkpoint.00000004/{name}")?;
+        shelf.put(&path, bytes)?;
+    }
+    Ok(shelf)
+}
+
+// A store whose log is the checkpoint 4 with these bytes in its one file, and a segment past it.
+fn shelf_of_checkpoint(alloc: Global, bytes: &[u8]) -> Result<Shelf, StoreFault> {
+    let segments = [("00000005", SAMPLE_1_AT_1000), ("00000003", OF_BAD_TYPE)];
+    shelf_with_checkpoint(alloc, &segments, &[("00000000", bytes)])
+}
+
+// The checkpoint stands for the segments up to its number, whatever they hold.
+#[test]
+fn checkpoint_then_segment(rt: HostRuntime) -> Result<(), StoreFault> {
+    let alloc = rt.alloc();
+    let mut shelf = shelf_of_checkpoint(alloc, SERIES_1_A_X)?;
+    let outcome = run_line(&rt, &mut shelf, "prom_head records log")?;
+    let printed = "checkpoint 00000000 0 series 1\nsegment 00000005 0 samples 1\ndamage none\n";
+    assert_outcome(&rt, "records", &outcome, (0, printed, ""))?;
+    let outcome = run_line(&rt, &mut shelf, "prom_head replay log")?;
+    let counts = [
+        ("series_records", 1),
+        ("sample_records", 1),
+        ("series_entries", 1),
+        ("series", 1),
+        ("accepted", 1),
+    ];
+    let printed = replay_text(alloc, &counts, "none")?;
+    assert_outcome(&rt, "replay", &outcome, (0, &printed, ""))
 }
 
 #[test]
-fn not_in_this_stage(rt: HostRuntime) -> Result<(), StoreFault> {
-    let good = ("00000000", RECORD_OF_NO_BYTES);
-    let checkpoint = ("checkpoint.00000004", RECORD_OF_NO_BYTES);
-    assert_not_in_this_stage(&rt, "a checkpoint", &[checkpoint])?;
-    assert_not_in_this_stage(&rt, "a checkpoint and a segment", &[good, checkpoint])?;
-    assert_not_in_this_stage(&rt, "two segments", &[good, ("00000001", b"")])?;
-    assert_not_in_this_stage(&rt, "two of one number", &[good, ("0", b"")])
+fn torn_checkpoint(rt: HostRuntime) -> Result<(), StoreFault> {
+    let alloc = rt.alloc();
+    let mut short = Vec::from_slice(alloc, SERIES_1_A_X)?;
+    short.truncate(20);
+    let mut shelf = shelf_of_checkpoint(alloc, &short)?;
+    let damage = "checkpoint 00000000 offset 0 kind 6 Torn";
+    let outcome = run_line(&rt, &mut shelf, "prom_head replay log")?;
+    let printed = replay_text(alloc, &[], damage)?;
+    assert_outcome(&rt, "replay", &outcome, (1, &printed, ""))?;
+    let outcome = run_line(&rt, &mut shelf, "prom_head records log")?;
+    let printed = format!(in alloc; "damage {damage}\n")?;
+    assert_outcome(&rt, "records", &outcome, (1, &printed, ""))
+}
+
+// Lists the records of the files of a directory, where it is to end with this status and print this.
+fn assert_records<R: Abort + AllocGlobal>(
+    rt: &R,
+    case: &str,
+    files: &[(&str, &[u8])],
+    status: u8,
+    printed: &str,
+) -> Result<(), StoreFault> {
+    let mut shelf = shelf_with(rt.alloc(), files)?;
+    let outcome = run_line(rt, &mut shelf, "prom_head records log")?;
+    assert_outcome(rt, case, &outcome, (status, printed, ""))
+}
+
+// Records are listed up to the damage, each with the file that it stands in.
+#[test]
+fn listed_records(rt: HostRuntime) -> Result<(), StoreFault> {
+    let first = joined(rt.alloc(), &[SERIES_1_JOB_API, SAMPLES_1_AT_1000_1015])?;
+    assert_records(
+        &rt,
+        "one series",
+        &[("0", &first), ("1", b"")],
+        0,
+        "segment 00000000 0 series 1\nsegment 00000000 25 samples 2\ndamage none\n",
+    )?;
+    let second = joined(
+        rt.alloc(),
+        &[
+            STONES_1_1_1_2,
+            RECORD_OF_TYPE_49,
+            STONES_OF_NONE,
+            OF_BAD_TYPE,
+        ],
+    )?;
+    assert_records(
+        &rt,
+        "two segments",
+        &[("8", &second), ("7", &first)],
+        1,
+        "segment 00000007 0 series 1\nsegment 00000007 25 samples 2\n\
+        segment 00000008 0 stones 4\nsegment 00000008 66 skipped 0\n\
+        segment 00000008 82 stones 0\n\
+        damage segment 00000008 offset 90 kind 3 BadType\n",
+    )
+}
+
+// A deletion hides times of a series that is known before it. An unknown one is unknown, also where it is empty.
+#[test]
+fn hidden_runs(rt: HostRuntime) -> Result<(), StoreFault> {
+    assert_replay(
+        &rt,
+        &[SERIES_1_A_X_2_A_Y, SAMPLES_1_2_1, STONES_1_1_1_2],
+        &[
+            ("series_records", 1),
+            ("sample_records", 1),
+            ("stone_records", 1),
+            ("series_entries", 2),
+            ("series", 2),
+            ("accepted", 3),
+            ("hiding", 3),
+            ("empty_stones", 1),
+        ],
+    )?;
+    assert_replay(
+        &rt,
+        &[STONES_9_9_1, SERIES_1_A_X, STONES_9_9_1, STONES_OF_NONE],
+        &[
+            ("series_records", 1),
+            ("stone_records", 3),
+            ("series_entries", 1),
+            ("series", 1),
+            ("hiding", 1),
+            ("unknown_stones", 5),
+        ],
+    )?;
+    assert_damage(
+        &rt,
+        "a byte left over",
+        STONE_WITH_A_BYTE_LEFT_OVER,
+        &[],
+        "offset 0 kind 9 BadRecord",
+    )
+}
+
+fn assert_gap<R: Abort + AllocGlobal>(
+    rt: &R,
+    case: &str,
+    shelf: &mut Shelf,
+) -> Result<(), StoreFault> {
+    for line in ["prom_head replay log", "prom_head records log"] {
+        let outcome = run_line(rt, shelf, line)?;
+        assert_outcome(rt, case, &outcome, (3, "", "gap in segment numbers"))?;
+    }
+    Ok(())
+}
+
+#[test]
+fn gaps(rt: HostRuntime) -> Result<(), StoreFault> {
+    let alloc = rt.alloc();
+    let record = RECORD_OF_NO_BYTES;
+    for names in [["00000005", "00000007"], ["5", "00000005"], ["7", "5"]] {
+        let files = [(names[0], record), (names[1], record)];
+        assert_gap(&rt, "segments", &mut shelf_with(alloc, &files)?)?;
+        let good = [("00000000", record)];
+        let mut shelf = shelf_with_checkpoint(alloc, &files, &good)?;
+        assert_gap(&rt, "behind a checkpoint", &mut shelf)?;
+        let mut shelf = shelf_with_checkpoint(alloc, &[("5", record)], &files)?;
+        assert_gap(&rt, "in a checkpoint", &mut shelf)?;
+    }
+    let mut shelf = shelf_with_checkpoint(alloc, &[], &[])?;
+    shelf.put_dir("log/checkpoint.4")?;
+    assert_gap(&rt, "two checkpoints of one number", &mut shelf)?;
+    // a newer one, 5 by number though not by text, makes both of no matter
+    shelf.put_dir("log/checkpoint.00000000005")?;
+    let outcome = run_line(&rt, &mut shelf, "prom_head records log")?;
+    assert_outcome(&rt, "a newer one", &outcome, (0, "damage none\n", ""))
 }
 
 // A number may take more bytes than it needs, but not more than ten, nor more than 64 bits, nor have no end.
@@ -653,102 +653,42 @@ fn directory_names(rt: HostRuntime) -> Result<(), StoreFault> {
     Ok(())
 }
 
-#[test]
-fn wrong_arguments(rt: HostRuntime) -> Result<(), StoreFault> {
-    for (line, text) in [
-        (
-            "prom_head",
-            "error: 'prom_head' requires a subcommand but one was not provided\n",
-        ),
-        (
-            "prom_head records log",
-            "error: unrecognized subcommand 'records'\n",
-        ),
-        ("prom_head help", "error: unrecognized subcommand 'help'\n"),
-        (
-            "prom_head --version",
-            "error: unexpected argument '--version' found\n",
-        ),
-        (
-            "prom_head replay",
-            "error: the following required arguments were not provided:\n  <DIR>\n",
-        ),
-        (
-            "prom_head replay log more",
-            "error: unexpected argument 'more' found\n",
-        ),
-        (
-            "prom_head replay log --workers=4",
-            "error: unexpected argument '--workers' found\n",
-        ),
-    ] {
-        let mut shelf = shelf_with(rt.alloc(), &[("00000000", RECORD_OF_NO_BYTES)])?;
-        let outcome = run_line(&rt, &mut shelf, line)?;
-        let said = complaint(rt.alloc(), &outcome)?;
-        assert!(rt; said.starts_with(text), "{line}: {said}");
-        assert_outcome(&rt, line, &outcome, (2, "", &said))?;
-        assert_eq!(rt; shelf.calls()?, 0, "{line}");
-    }
-    Ok(())
-}
-
-const HELP: &str = "\
-Reads a write-ahead log of samples
-
-Usage: prom_head <COMMAND>
-
-Commands:
-  replay  Counts what the log holds
-
-Options:
-  -h, --help  Print help
-";
-
-const REPLAY_HELP: &str = "\
-Counts what the log holds
-
-Usage: prom_head replay <DIR>
-
-Arguments:
-  <DIR>  The directory of the log
-
-Options:
-  -h, --help  Print help
-";
-
-#[test]
-fn help(rt: HostRuntime) -> Result<(), StoreFault> {
-    for (line, text) in [
-        ("prom_head --help", HELP),
-        ("prom_head -h", HELP),
-        ("prom_head replay --help", REPLAY_HELP),
-        ("prom_head replay log -h", REPLAY_HELP),
-    ] {
-        let mut shelf = shelf_with(rt.alloc(), &[("00000000", RECORD_OF_NO_BYTES)])?;
-        let outcome = run_line(&rt, &mut shelf, line)?;
-        assert_outcome(&rt, line, &outcome, (0, text, ""))?;
-        assert_eq!(rt; shelf.calls()?, 0, "{line}");
-    }
-    Ok(())
-}
-
+// Names are looked at first, then files are read in the order of the log, and then the bytes are looked at.
 #[test]
 fn each_call_fails(rt: HostRuntime) -> Result<(), StoreFault> {
-    let counts = replay_text(rt.alloc(), &[("skipped_records", 1)], "none")?;
-    for (call, fault, want) in [
-        (1, StoreFault::Refused, (3, "", "cannot read log")),
-        (2, StoreFault::Refused, (3, "", "cannot read log/00000000")),
-        (1, StoreFault::OutOfMemory, (4, "", "out of memory")),
-        (2, StoreFault::OutOfMemory, (4, "", "out of memory")),
-        // there is no third call
-        (3, StoreFault::Refused, (0, counts.as_str(), "")),
+    let alloc = rt.alloc();
+    let listed = "checkpoint 00000000 0 skipped 0\nsegment 00000005 0 skipped 0\n\
+        damage segment 00000006 offset 0 kind 3 BadType\n";
+    for (call, path) in [
+        (1, "log"),
+        (2, "log/checkpoint.00000004"),
+        (3, "log/checkpoint.00000004/00000000"),
+        (4, "log/00000005"),
+        (5, "log/00000006"),
+        (6, "log/00000007"),
+        // there is no seventh call
+        (7, ""),
     ] {
-        let mut shelf = shelf_with(rt.alloc(), &[("00000000", RECORD_OF_NO_BYTES)])?;
-        shelf.fail(call, fault)?;
-        let outcome = run_line(&rt, &mut shelf, "prom_head replay log")?;
-        let case = format!(in rt.alloc(); "call {call}, {fault:?}")?;
-        assert_outcome(&rt, &case, &outcome, want)?;
-        assert_eq!(rt; shelf.calls()?, call.min(2), "{case}");
+        for fault in [StoreFault::Refused, StoreFault::OutOfMemory] {
+            let segments = [
+                ("00000005", RECORD_OF_NO_BYTES),
+                ("00000007", OF_BAD_TYPE),
+                ("00000006", OF_BAD_TYPE),
+            ];
+            let first = [("00000000", RECORD_OF_NO_BYTES)];
+            let mut shelf = shelf_with_checkpoint(alloc, &segments, &first)?;
+            shelf.fail(call, fault)?;
+            let outcome = run_line(&rt, &mut shelf, "prom_head records log")?;
+            let case = format!(in alloc; "call {call}, {fault:?}")?;
+            let refused = format!(in alloc; "cannot read {path}")?;
+            let want = match fault {
+                _ if call == 7 => (1, listed, ""),
+                StoreFault::Refused => (3, "", refused.as_str()),
+                StoreFault::OutOfMemory => (4, "", "out of memory"),
+            };
+            assert_outcome(&rt, &case, &outcome, want)?;
+            assert_eq!(rt; shelf.calls()?, call.min(6), "{case}");
+        }
     }
     Ok(())
 }
