@@ -1,4 +1,0 @@
-pub mod Owners
-pub mod Items
-pub mod Counts
-pub mod Lists

@@ -5,10 +5,12 @@ ghost use Rattle.clap.specs.Values.{kind_of};
 ghost use Rattle.clap.specs.declared.error.kind.ErrorKind.TheVariants as kind;
 ghost use Rattle.wal_log.specs.declared.plan.PlanFault.TheVariants as plan;
 ghost use Rattle.wal_log.specs.declared.input.InputFault.TheVariants as input;
+ghost use Rattle.head_core.specs.declared.replay.ReplayFault.TheVariants as replay;
 ghost use Rattle.prom_head.specs.declared.fault.Fault.TheVariants.{OutOfMemory, TooLarge};
 
 use crate::store::StoreFault;
 use clap::error::ErrorKind;
+use head_core::ReplayFault;
 use std::alloc::{AllocError, AllocFailed, Global};
 use std::process::ExitCode;
 use thiserror::Error;
@@ -51,6 +53,9 @@ pub enum Fault {
     /// All files of the log together have 2^64 bytes or more.
     #[error("too large")]
     TooLarge,
+    /// The log has more series, label texts or entries than a head may have.
+    #[error("too many series")]
+    Full,
     #[error("out of memory")]
     OutOfMemory,
 }
@@ -67,8 +72,11 @@ impl Fault {
     pub fn status(&self) -> Status {
         match self {
             Fault::Usage(_) | Fault::NotUtf8 => Status::Usage,
-            Fault::CannotRead { .. } | Fault::CannotPrint | Fault::Gap | Fault::TooLarge =>
-                Status::Refused,
+            Fault::CannotRead { .. }
+            | Fault::CannotPrint
+            | Fault::Gap
+            | Fault::TooLarge
+            | Fault::Full => Status::Refused,
             Fault::OutOfMemory => Status::OutOfMemory,
         }
     }
@@ -92,6 +100,17 @@ impl From<PlanFault> for Fault {
         match fault {
             PlanFault::Gap => Fault::Gap,
             PlanFault::Memory => Fault::OutOfMemory,
+        }
+    }
+}
+
+impl From<ReplayFault> for Fault {
+    ghost from_gives = { λ e f. (f ≡ OutOfMemory) ↔ (e ≡ replay.Memory) };
+
+    fn from(fault: ReplayFault) -> Fault {
+        match fault {
+            ReplayFault::Full => Fault::Full,
+            ReplayFault::Memory => Fault::OutOfMemory,
         }
     }
 }

@@ -5,7 +5,6 @@ mod directory;
 mod disk;
 mod fault;
 mod options;
-mod plain;
 mod program;
 mod report;
 #[cfg(test)]

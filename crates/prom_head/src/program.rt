@@ -4,9 +4,9 @@ use crate::directory::read_log;
 use crate::fault::{Fault, Status};
 use crate::options;
 use crate::options::Request;
-use crate::plain::plain_replay;
 use crate::report::{counts_text, push_damage, records_text};
 use crate::store::Store;
+use head_core::replay_serial;
 use std::alloc::Global;
 use wal_log::read_all;
 
@@ -41,9 +41,9 @@ impl Outcome {
 
 fn replay<S: Store>(alloc: Global, store: &mut S, dir: &str) -> Result<(String, Status), Fault> {
     let input = read_log(alloc, store, dir)?;
-    let replay = plain_replay(alloc, &input)?;
-    let mut text = counts_text(alloc, &replay.counts)?;
-    let status = push_damage(&mut text, replay.damage)?;
+    let replayed = replay_serial(alloc, &input)?;
+    let mut text = counts_text(alloc, &replayed.head)?;
+    let status = push_damage(&mut text, replayed.damage)?;
     Ok((text, status))
 }
 

@@ -1,0 +1,10 @@
+pub mod Times
+pub mod Counting
+pub mod Lists
+pub mod Known
+pub mod Shown
+pub mod More
+pub mod Reading
+pub mod Limits
+pub mod Taking
+pub mod Whole

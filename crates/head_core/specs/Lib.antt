@@ -1,0 +1,6 @@
+pub mod Owners
+pub mod Items
+pub mod Counts
+pub mod Content
+pub mod Steps
+pub mod Heads

@@ -1,0 +1,87 @@
+-- What is copied, and compared.
+use Rattle.std.proofs.Common.{◌≡◌, ℕ, zero, suc, ◌<◌, ◌≤◌, Bool, true, false, List, [], ◌∷◌, Some, ap, sym, subst, ◌∙◌, refl, length, take, drop, eqb-true, eq-eqb}
+use Rattle.std.specs.Prelude.{◌==◌, map, nat_eq, slice_get, if◌then◌else◌}
+use Rattle.std.specs.Cmp.Lexicographic.{slice_cmp}
+use Rattle.std.specs.Map.{lookup}
+use Rattle.std.specs.Ordering.{nat_cmp}
+use Rattle.std.specs.declared.cmp.Ordering.TheVariants.{Less, Greater}
+use Rattle.std.proofs.Math.Seq.{drop-cons}
+use Rattle.std.proofs.lemmas.List.{drop_all}
+use Rattle.wal_record.specs.declared.labels.Label.{Label}
+use Rattle.wal_record.specs.Labels.{IsLabelSet, IsNext, compare_labels}
+use Rattle.head_series.specs.Owners.{Owners, slot_of}
+use Rattle.head_series.specs.Rows.{IsLast, labels_hash, labels_in, or_zero}
+use Rattle.head_series.specs.Sound.{IsSound}
+use Rattle.head_series.specs.Texts.{Text, TextTable}
+
+drop_at : {A : Type 0} (xs : List A) (n : ℕ) (x : A) → slice_get xs n ≡ Some x → drop n xs ≡ x ∷ drop (suc n) xs
+drop_at [] n x h = cc
+drop_at (y ∷ ys) zero x h = let k : y ≡ x = cc in ap (λ z. z ∷ ys) k
+drop_at (y ∷ ys) (suc n) x h = drop_at ys n x h
+
+eq_flip : (a b : ℕ) → (a == b) ≡ nat_eq b a
+eq_flip a b = at (a == b) (nat_eq b a) refl refl where
+  at : (x y : Bool) → (a == b) ≡ x → nat_eq b a ≡ y → x ≡ y
+  at true true e f = refl
+  at true false e f = let k : a ≡ b = eqb-true a b e in let m : nat_eq b a ≡ true = eq-eqb b a (sym k) in cc
+  at false true e f = let k : b ≡ a = eqb-true b a f in let m : (a == b) ≡ true = eq-eqb a b (sym k) in cc
+  at false false e f = refl
+
+-- one entry more, put in before the later ones
+pub put_front : (es : List (ℕ × ℕ)) (n left key v : ℕ) → left ≡ suc n → slice_get es n ≡ Some (key, v) → (k : ℕ) → (if key == k then Some v else lookup (nat_eq k) (drop left es)) ≡ lookup (nat_eq k) (drop n es)
+put_front es n left key v e h k =
+    ap (λ m. if key == k then Some v else lookup (nat_eq k) (drop m es)) e
+    ∙ ap (λ b. if b then Some v else lookup (nat_eq k) (drop (suc n) es)) (eq_flip key k)
+    ∙ ap (lookup (nat_eq k)) (sym (drop_at es n (key, v) h))
+
+-- a table of the same fields
+pub IsSound-alike : (t u : TextTable) (most : ℕ) (nss mss : List (List (ℕ × ℕ))) (befores cefores : List ℕ) (lasts masts : List (ℕ × ℕ)) (hints ints : List ℕ) (o p : Owners) → IsSound t most nss befores lasts hints o
+    → u ≡ t → mss ≡ nss → cefores ≡ befores → ((h : ℕ) → lookup (nat_eq h) masts ≡ lookup (nat_eq h) lasts) → ints ≡ hints → ((r : ℕ) → slot_of p r ≡ slot_of o r) → IsSound u most mss cefores masts ints p
+IsSound-alike t u most nss mss befores cefores lasts masts hints ints o p s tu ns bs ls hs os =
+    subst (λ z. IsSound z most mss cefores masts ints p) (sym tu)
+    (subst (λ z. IsSound t most z cefores masts ints p) (sym ns)
+    (subst (λ z. IsSound t most nss z masts ints p) (sym bs)
+    (subst (λ z. IsSound t most nss befores masts z p) (sym hs)
+    (record {
+      few = s.few;
+      limit = s.limit;
+      within = s.within;
+      distinct = s.distinct;
+      ordered = s.ordered;
+      befored = s.befored;
+      hinted = s.hinted;
+      below = record {
+        within = λ r n e. s.below.within r n (sym (os r) ∙ e);
+        below = λ r n e. s.below.below r n (sym (os r) ∙ e);
+      };
+      chained = record {
+        ends = λ h. subst (IsLast (hashes t nss) (length (hashes t nss)) h) (sym (ap or_zero (ls h))) (s.chained.ends h);
+        before = s.chained.before;
+      };
+    })))) where
+      hashes : TextTable → List (List (ℕ × ℕ)) → List ℕ
+      hashes t nss = map labels_hash (map (labels_in t.texts) nss)
+
+-- a label of a label set, and the labels before it
+pub name_at : (ls : List Label) (i : ℕ) (l : Label) → IsLabelSet ls → slice_get ls i ≡ Some l → 0 < length l.name
+name_at [] i l d h = cc
+name_at (x ∷ []) zero l d h = let k : x ≡ l = cc in subst (λ (z : Label). 0 < length z.name) k d
+name_at (x ∷ []) (suc i) l d h = cc
+name_at (x ∷ y ∷ ms) zero l (a, b, c) h = let k : x ≡ l = cc in subst (λ (z : Label). 0 < length z.name) k a
+name_at (x ∷ y ∷ ms) (suc i) l (a, b, c) h = name_at (y ∷ ms) i l c h
+
+pub next_at : (ls : List Label) (i : ℕ) (l : Label) → IsLabelSet ls → slice_get ls i ≡ Some l → IsNext (take i ls) l.name
+next_at [] i l d h = cc
+next_at (x ∷ xs) zero l d h = tt
+next_at (x ∷ []) (suc i) l d h = cc
+next_at (x ∷ y ∷ ms) (suc zero) l (a, b, c) h = let k : y ≡ l = cc in subst (λ (z : Label). slice_cmp nat_cmp x.name z.name ≡ Less) k b
+next_at (x ∷ y ∷ ms) (suc (suc i)) l (a, b, c) h = next_at (y ∷ ms) (suc i) l c h
+
+-- one of two label sets is at its end
+pub greater_end : (ts : List Text) (ls ms : List (ℕ × ℕ)) (i : ℕ) → i < length ls → length ms ≤ i → Greater ≡ compare_labels (labels_in ts (drop i ls)) (labels_in ts (drop i ms))
+greater_end ts ls ms i a b =
+    ap (λ z. compare_labels (labels_in ts z) (labels_in ts [])) (sym (drop-cons ls i (0, 0) a)) ∙ ap (λ z. compare_labels (labels_in ts (drop i ls)) (labels_in ts z)) (sym (drop_all i ms b))
+
+pub less_end : (ts : List Text) (ls ms : List (ℕ × ℕ)) (i : ℕ) → length ls ≤ i → i < length ms → Less ≡ compare_labels (labels_in ts (drop i ls)) (labels_in ts (drop i ms))
+less_end ts ls ms i a b =
+    ap (λ z. compare_labels (labels_in ts []) (labels_in ts z)) (sym (drop-cons ms i (0, 0) b)) ∙ ap (λ z. compare_labels (labels_in ts z) (labels_in ts (drop i ms))) (sym (drop_all i ls a))

@@ -1,0 +1,70 @@
+-- Series in the order of first sight, and the slots of references.
+use Rattle.std.specs.Prelude.{◌≡◌, ℕ, ◌+◌, ◌<◌, ◌≤◌, ◌==◌, ◌⊎◌, Bool, false, List, [], ◌∷◌, ◌++◌, length, nat_lt, if◌then◌else◌, Option, Some, None, slice_index_or}
+use Rattle.std.specs.List.{list_any}
+use Rattle.wal_record.specs.declared.labels.Label.{Label}
+use Rattle.wal_record.specs.Labels.{same_labels}
+use Rattle.head_series.specs.Owners.{Owners, slot_of}
+use Rattle.head_series.specs.Texts.{Text, with_texts, texts_of}
+
+-- a label set
+abbrev pub Labels : Type 0
+Labels = List Label
+
+-- What a table shows: the series by slot; what gives each reference its slot, if it has one (`slot_at`); the greatest reference that was ever bound; the distinct texts of the series; and how many series, and how many texts, there may be.
+pub record Table : Type 0 where
+  pub series : List Labels
+  pub slots : Owners
+  pub greatest : Option ℕ
+  pub texts : List Text
+  pub most : ℕ
+
+-- the slot of a reference
+abbrev pub slot_at : Table → ℕ → Option ℕ
+slot_at t r = slot_of t.slots r
+
+-- the label set of a slot
+abbrev pub labels_at : Table → ℕ → Labels
+labels_at t s = slice_index_or t.series s []
+
+-- the label set is among the series
+abbrev pub has_series : List Labels → Labels → Bool
+has_series ss ls = list_any (same_labels ls) ss
+
+-- the series once the label set was seen
+abbrev pub with_series : List Labels → Labels → List Labels
+with_series ss ls = if has_series ss ls then ss else ss ++ ls ∷ []
+
+-- the texts once the label set was seen
+abbrev pub texts_with : Table → Labels → List Text
+texts_with t ls = if has_series t.series ls then t.texts else with_texts t.texts (texts_of ls)
+
+-- the label set is new, and one series more, or its texts, would pass the limit
+abbrev pub IsFull : Table → Labels → Type 0
+IsFull t ls = (has_series t.series ls ≡ false) × ((length t.series ≡ t.most) ⊎ (t.most < length (with_texts t.texts (texts_of ls))))
+
+-- the same slots, but that the reference q has the slot s
+abbrev pub IsWith : (ℕ → Option ℕ) → ℕ → ℕ → (ℕ → Option ℕ) → Type 0
+IsWith old q s new = (r : ℕ) → new r ≡ (if q == r then Some s else old r)
+
+-- the greatest of these and r
+abbrev pub with_greatest : Option ℕ → ℕ → Option ℕ
+with_greatest None r = Some r
+with_greatest (Some g) r = if nat_lt g r then Some r else Some g
+
+-- one more than the greatest; 1 if there is none, and none if that was 2 ^ 64 - 1
+abbrev pub after : Option ℕ → Option ℕ
+after None = Some 1
+after (Some g) = if nat_lt g 18446744073709551615 then Some (g + 1) else None
+
+-- the least number that has the property, or none if none has it
+abbrev pub IsLeast : (ℕ → Type 0) → Option ℕ → Type 0
+IsLeast has None = (r : ℕ) → has r → ⊥
+IsLeast has (Some q) = has q × ((r : ℕ) → has r → q ≤ r)
+
+-- two tables that no call tells apart
+pub record AreAlike (t u : Table) : Type 0 where
+  pub series : u.series ≡ t.series
+  pub slots : (r : ℕ) → slot_at u r ≡ slot_at t r
+  pub greatest : u.greatest ≡ t.greatest
+  pub texts : u.texts ≡ t.texts
+  pub most : u.most ≡ t.most

@@ -1,0 +1,38 @@
+-- Texts in the order of first sight.
+use Rattle.std.specs.Prelude.{ℕ, ◌+◌, Bool, List, [], ◌∷◌, ◌++◌, if◌then◌else◌, Option, Some, None}
+use Rattle.std.specs.Option.{option_map}
+use Rattle.std.specs.List.{list_any}
+use Rattle.wal_record.specs.declared.labels.Label.{Label}
+use Rattle.wal_record.specs.Labels.{same_text}
+
+-- any bytes
+abbrev pub Text : Type 0
+Text = List ℕ
+
+-- the text is among the texts
+abbrev pub has_text : List Text → Text → Bool
+has_text ts t = list_any (same_text t) ts
+
+-- the texts once t was seen
+abbrev pub with_text : List Text → Text → List Text
+with_text ts t = if has_text ts t then ts else ts ++ t ∷ []
+
+-- the texts once each of us was seen
+abbrev pub with_texts : List Text → List Text → List Text
+with_texts ts [] = ts
+with_texts ts (u ∷ us) = with_texts (with_text ts u) us
+
+-- the texts of a label set: each name, and then its value
+abbrev pub texts_of : List Label → List Text
+texts_of [] = []
+texts_of (l ∷ ls) = l.name ∷ l.value ∷ texts_of ls
+
+-- the place of the first that passes the test
+abbrev pub place : {A : Type 0} → (A → Bool) → List A → Option ℕ
+place p [] = None
+place p (x ∷ xs) = if p x then Some 0 else option_map (λ n. n + 1) (place p xs)
+
+-- texts, and how many there may be
+pub record TextTable : Type 0 where
+  pub texts : List Text
+  pub most : ℕ

@@ -1,0 +1,213 @@
+//! Numbers for texts.
+
+ghost use Rattle.std.specs.Prelude.{take, [], ◌≡◌, ◌<◌, ◌≤◌, ◌⊎◌, Some, None, Err, false, true, length, slice_get, IfOk, OnOk, OnErr, IsOk};
+ghost use Rattle.wal_record.specs.Labels.{same_text};
+ghost use Rattle.head_series.specs.Rows.{labels_in, AreWithin};
+ghost use Rattle.head_series.specs.Texts.{has_text, place, with_text, with_texts, texts_of};
+
+use indexmap::IndexSet;
+use std::alloc::{AllocError, AllocFailed, Global};
+use std::error::Error;
+use std::fmt;
+use std::marker::Model;
+use wal_record::LabelSet;
+
+/// Why a text has no number.
+#[derive(Clone, Copy, Debug, PartialEq, Eq)]
+pub enum InternFault {
+    /// The text is new, and there are as many texts as there may be.
+    Full,
+    /// Memory ran out.
+    Memory,
+}
+
+impl fmt::Display for InternFault {
+    fn fmt<W: fmt::Write>(&self, f: &mut fmt::Formatter<W>) -> fmt::Result {
+        f.write_str(match self {
+            InternFault::Full => "too many texts",
+            InternFault::Memory => "out of memory",
+        })
+    }
+}
+
+impl Error for InternFault {}
+
+impl From<AllocError> for InternFault {
+    ghost use Rattle.std.specs.Prelude.{◌≡◌};
+    ghost use Rattle.head_series.specs.declared.interner.InternFault.TheVariants.{Memory};
+
+    ghost from_gives = { λ _ e. e ≡ Memory };
+
+    fn from(_error: AllocError) -> InternFault {
+        InternFault::Memory
+    }
+}
+
+impl<T: Drop> From<AllocFailed<T>> for InternFault {
+    ghost use Rattle.std.specs.Prelude.{◌≡◌};
+    ghost use Rattle.head_series.specs.declared.interner.InternFault.TheVariants.{Memory};
+
+    ghost from_gives = { λ _ e. e ≡ Memory };
+
+    fn from(_error: AllocFailed<T>) -> InternFault {
+        InternFault::Memory
+    }
+}
+
+/// Texts, any bytes, each kept once and numbered from 0 in the order of first sight. Contracts see the list of them, and
+/// how many there may be.
+#[derive(Debug, Drop)]
+pub struct Interner {
+    texts: IndexSet<Vec<u8>>,
+    most: u32,
+}
+
+impl Model for Interner {
+    ghost use Rattle.std.specs.Prelude.{map, length, ◌≤◌};
+    ghost use Rattle.wal_record.specs.Labels.{same_text};
+    ghost use Rattle.head_series.specs.Rows.{AreDistinct};
+    ghost use Rattle.head_series.specs.Texts.{TextTable};
+
+    ghost Value = { TextTable };
+
+    ghost view = { λ t. record { texts = map (λ v. v.items) t.texts.keys; most = t.most } };
+
+    ghost invariant = { λ t. (length t.texts.keys ≤ t.most) × AreDistinct same_text (map (λ v. v.items) t.texts.keys) };
+}
+
+impl Interner {
+    /// No texts yet, and at most this many.
+    pub fn new(alloc: Global, most: u32) -> Interner
+        ensures texts { result.texts ≡ [] }
+        ensures most { result.most ≡ most }
+    {
+        Interner {
+            texts: IndexSet::new(alloc),
+            most,
+        }
+    }
+
+    /// How many texts there are.
+    pub fn len(&self) -> usize
+        ensures count { result ≡ length self.now.texts }
+        ensures few { result ≤ self.now.most }
+    {
+        let _most = self.most;
+        self.texts.len()
+    }
+
+    // The number that a text has.
+    fn find(&self, text: &[u8]) -> Option<u32>
+        ensures { result ≡ place (same_text text.now) self.now.texts }
+    {
+        let _most = self.most;
+        match self.texts.get_index_of(text) {
+            Some(index) => Some(index as u32),
+            None => None,
+        }
+    }
+
+    /// The number of a text, a copy of which is kept if it is new. `Full` where it is new and there are as many texts as
+    /// there may be, `Memory` where memory ran out; the texts stay as they were on both.
+    pub fn number(&mut self, text: &[u8]) -> Result<u32, InternFault>
+        ensures texts { OnOk result (self.new.texts ≡ with_text self.old.texts text.now) }
+        ensures number { IfOk result (λ n. place (same_text text.now) self.new.texts ≡ Some n) }
+        ensures within { IfOk result (λ n. n < length self.new.texts) }
+        ensures full { (result ≡ Err InternFault.Full) → (has_text self.old.texts text.now ≡ false) × (length self.old.texts ≡ self.old.most) }
+        ensures room { IsOk result → (has_text self.old.texts text.now ≡ true) ⊎ (length self.old.texts < self.old.most) }
+        ensures kept { OnErr result (self.new.texts ≡ self.old.texts) }
+        ensures most { self.new.most ≡ self.old.most }
+    {
+        match self.find(text) {
+            Some(number) => return Ok(number),
+            None => {}
+        }
+        let number = self.texts.len();
+        if number >= self.most as usize {
+            return Err(InternFault::Full);
+        }
+        let text = Vec::from_slice(*self.texts.allocator(), text)?;
+        self.texts.insert_full(text)?;
+        Ok(number as u32)
+    }
+
+    /// The text with the number.
+    pub fn bytes(&self, number: u32) -> &[u8]
+        requires { number < length self.now.texts }
+        ensures { slice_get self.now.texts number ≡ Some result.now }
+    {
+        self.texts[number as usize].as_slice()
+    }
+
+    // Keeps the first texts only.
+    fn truncate(&mut self, many: usize)
+        ensures texts { self.new.texts ≡ take many self.old.texts }
+        ensures most { self.new.most ≡ self.old.most }
+    {
+        let _most = self.most;
+        self.texts.truncate(many);
+    }
+
+    // The numbers of the texts of a label set. On an error the texts stay as they were.
+    pub(crate) fn numbers(&mut self, labels: &LabelSet) -> Result<Vec<(u32, u32)>, InternFault>
+        ensures texts { OnOk result (self.new.texts ≡ with_texts self.old.texts (texts_of labels.now)) }
+        ensures numbers { IfOk result (λ ns. labels_in self.new.texts ns.items ≡ labels.now) }
+        ensures within { IfOk result (λ ns. AreWithin (length self.new.texts) ns.items) }
+        ensures front { OnOk result (take (length self.old.texts) self.new.texts ≡ self.old.texts) }
+        ensures full { (result ≡ Err InternFault.Full) → self.old.most < length (with_texts self.old.texts (texts_of labels.now)) }
+        ensures room { IsOk result → length (with_texts self.old.texts (texts_of labels.now)) ≤ self.old.most }
+        ensures kept { OnErr result (self.new.texts ≡ self.old.texts) }
+        ensures most { self.new.most ≡ self.old.most }
+    {
+        let many = self.len();
+        match self.numbers_in(labels) {
+            Ok(numbers) => Ok(numbers),
+            Err(fault) => {
+                self.truncate(many);
+                Err(fault)
+            }
+        }
+    }
+
+    // As `numbers`, but on an error there may be more texts.
+    fn numbers_in(&mut self, labels: &LabelSet) -> Result<Vec<(u32, u32)>, InternFault>
+        ensures texts { OnOk result (self.new.texts ≡ with_texts self.old.texts (texts_of labels.now)) }
+        ensures numbers { IfOk result (λ ns. labels_in self.new.texts ns.items ≡ labels.now) }
+        ensures within { IfOk result (λ ns. AreWithin (length self.new.texts) ns.items) }
+        ensures front { take (length self.old.texts) self.new.texts ≡ self.old.texts }
+        ensures full { (result ≡ Err InternFault.Full) → self.old.most < length (with_texts self.old.texts (texts_of labels.now)) }
+        ensures room { IsOk result → length self.new.texts ≤ self.old.most }
+        ensures most { self.new.most ≡ self.old.most }
+    {
+        let mut numbers = Vec::new(*self.texts.allocator());
+        for i in 0..labels.len() {
+            let (name, value) = labels.pair(i);
+            let first = match self.number(name) {
+                Ok(first) => first,
+                Err(fault) => return Err(fault),
+            };
+            let second = match self.number(value) {
+                Ok(second) => second,
+                Err(fault) => return Err(fault),
+            };
+            numbers.push((first, second))?;
+        }
+        let _texts = &self.texts;
+        Ok(numbers)
+    }
+
+    // The same texts, in memory of their own.
+    pub(crate) fn copy(&self) -> Result<Interner, AllocError>
+        ensures { IfOk result (λ copy. copy ≡ self.now) }
+    {
+        let mut copy = Interner::new(*self.texts.allocator(), self.most);
+        for i in 0..self.texts.len() {
+            match copy.number(self.bytes(i as u32)) {
+                Ok(_) => {}
+                Err(InternFault::Full) => unreachable!(),
+                Err(InternFault::Memory) => return Err(AllocError),
+            }
+        }
+        Ok(copy)
+    }
+}

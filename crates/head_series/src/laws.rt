@@ -1,0 +1,19 @@
+//! Laws of the definitions.
+
+ghost use Rattle.std.specs.Prelude.{◌≡◌, ◌<◌, ℕ, List, Option, Some, length};
+ghost use Rattle.std.specs.Option.{option_and_then};
+ghost use Rattle.wal_record.specs.Labels.{same_labels};
+ghost use Rattle.head_series.specs.Bindings.{Binding, owner, IsTableOf};
+ghost use Rattle.head_series.specs.Table.{Table, labels_at, slot_at, IsLeast};
+ghost use Rattle.head_series.specs.Texts.{place};
+
+/// In a table of bindings the slot of a reference is the place of its owner among the series, and a reference without an
+/// owner has none.
+pub fn slot_is_place()
+    ensures { (bs : List Binding) (t : Table) (r : ℕ) → IsTableOf bs t → slot_at t r ≡ option_and_then (λ ls. place (same_labels ls) t.series) (owner bs r) }
+{}
+
+/// In a table of bindings the least reference with a slot is the least reference whose owner is the label set of the slot.
+pub fn least_reference()
+    ensures { (bs : List Binding) (t : Table) (s : ℕ) (least : Option ℕ) → IsTableOf bs t → s < length t.series → IsLeast (λ r. slot_at t r ≡ Some s) least → IsLeast (λ r. owner bs r ≡ Some (labels_at t s)) least }
+{}

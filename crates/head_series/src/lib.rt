@@ -1,0 +1,23 @@
+//! Label texts and series in the order of first sight.
+//!
+//! Each distinct label set is one series, numbered by its slot, whatever references a log gives it; each label text is kept
+//! once. A look-up by reference is one step, and one by label set takes no memory.
+#![tactic(auto)]
+
+mod comparing;
+mod hashing;
+mod interner;
+mod laws;
+mod maps;
+mod owners;
+mod rows;
+mod slot;
+mod table;
+
+pub use interner::{InternFault, Interner};
+pub use laws::{least_reference, slot_is_place};
+pub use slot::Slot;
+pub use table::{BindFault, Bound, SeriesTable};
+
+#[cfg(test)]
+mod tests;

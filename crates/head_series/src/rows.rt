@@ -1,0 +1,74 @@
+//! How a series is kept: numbers of texts, in chains of equal hashes.
+
+ghost use Rattle.std.specs.Prelude.{◌≡◌, ◌<◌, ◌==◌, ℕ, false, map, nat_eq, length, if◌then◌else◌, IfOk, IsTrue};
+ghost use Rattle.std.specs.Map.{lookup};
+ghost use Rattle.indexmap.specs.IndexMap.{spare};
+ghost use Rattle.head_series.specs.Rows.{labels_in, AreWithin, or_zero};
+
+use crate::interner::Interner;
+use indexmap::IndexMap;
+use std::alloc::{AllocError, Global};
+use wal_record::LabelSet;
+
+/// The text numbers of a series, and one more than the slot of the series before it whose label set has the same hash, or
+/// 0.
+#[derive(Debug, Drop)]
+pub(crate) struct Row {
+    pub(crate) numbers: Vec<(u32, u32)>,
+    pub(crate) before: u32,
+}
+
+// Whether these numbers are those of the label set.
+pub(crate) fn is_named(texts: &Interner, numbers: &[(u32, u32)], labels: &LabelSet) -> bool
+    requires { AreWithin (length texts.now.texts) numbers.now }
+    ensures yes { IsTrue result → labels.now ≡ labels_in texts.now.texts numbers.now }
+    ensures no { result ≡ false → labels.now ≡ labels_in texts.now.texts numbers.now → ⊥ }
+{
+    if numbers.len() != labels.len() {
+        return false;
+    }
+    for (i, number) in numbers.iter().enumerate() {
+        let (name, value) = labels.pair(i);
+        if texts.bytes(number.0) != name {
+            return false;
+        }
+        if texts.bytes(number.1) != value {
+            return false;
+        }
+    }
+    true
+}
+
+// One more than the slot of the last series whose label set has the hash, or 0.
+pub(crate) fn last_with(lasts: &IndexMap<u64, u32>, hash: u64) -> u32
+    ensures { result ≡ or_zero (lookup (nat_eq hash) lasts.now.entries) }
+{
+    match lasts.get(&hash) {
+        Some(last) => *last,
+        None => 0,
+    }
+}
+
+// Notes one more than the slot of the last series with the hash.
+pub(crate) fn note_last(lasts: &mut IndexMap<u64, u32>, hash: u64, last: u32)
+    requires { 0 < spare lasts.old }
+    ensures { (h : ℕ) → or_zero (lookup (nat_eq h) lasts.new.entries) ≡ (if hash == h then last else or_zero (lookup (nat_eq h) lasts.old.entries)) }
+{
+    lasts.insert(hash, last).unwrap();
+}
+
+// The same rows, in memory of their own.
+pub(crate) fn copied_rows(alloc: Global, rows: &[Row]) -> Result<Vec<Row>, AllocError>
+    ensures numbers { IfOk result (λ copy. map (λ r. r.numbers.items) copy.items ≡ map (λ r. r.numbers.items) rows.now) }
+    ensures befores { IfOk result (λ copy. map (λ r. r.before) copy.items ≡ map (λ r. r.before) rows.now) }
+{
+    let mut copy = Vec::with_capacity(alloc, rows.len())?;
+    for row in rows {
+        let numbers = Vec::from_slice(alloc, &row.numbers)?;
+        copy.push(Row {
+            numbers,
+            before: row.before,
+        })?;
+    }
+    Ok(copy)
+}
