@@ -10,14 +10,12 @@ use Rattle.hw_bytes.proofs.Lists.{along-push, append_none, by_push, map_push, fl
 use Rattle.wal_record.specs.Labels.{same_labels}
 use Rattle.wal_record.specs.Entries.{Entry, series, sample, stone}
 use Rattle.wal_record.proofs.Equality.{labels_same}
+use Rattle.head_column.specs.declared.items.Item.{Item}
 use Rattle.head_series.specs.Table.{Labels, has_series}
 use Rattle.head_series.specs.Bindings.{Binding, bound_by, series_of, owner as owner_of}
 use Rattle.head_core.specs.Owners.{binding, bindings, owner}
-use Rattle.head_core.specs.Items.{Item, sampled, deleted, times_taken, greatest}
-use Rattle.head_core.specs.Counts.{with_owner, known_at, known, items_of}
-use Rattle.head_core.specs.Content.{last_time}
+use Rattle.head_core.specs.Counts.{sample_item, stone_item, with_owner, known_at, known, items_of}
 use Rattle.head_core.proofs.Lists.{or_first, or_left, or_right}
-use Rattle.head_core.proofs.Times.{last_with, greatest_more}
 
 pub bindings-push : (es : List Entry) (e : Entry) → bindings (es ++ e ∷ []) ≡ bindings es ++ binding e
 bindings-push es e = flat_map-push binding es e
@@ -68,8 +66,8 @@ no_items es l = by_push (λ fs. is_bound (bindings fs) l ≡ false → items_of 
 
   not_known : (fs : List Entry) (e : Entry) → is_bound (bindings fs) l ≡ false → mine l (known_at fs e) ≡ []
   not_known fs (series e) h = refl
-  not_known fs (sample s) h = not_owned fs s.reference (sampled s.time s.value) (owner fs s.reference) refl h
-  not_known fs (stone d) h = not_owned fs d.reference (deleted d.min_time d.max_time) (owner fs d.reference) refl h
+  not_known fs (sample s) h = not_owned fs s.reference (sample_item s) (owner fs s.reference) refl h
+  not_known fs (stone d) h = not_owned fs d.reference (stone_item d) (owner fs d.reference) refl h
 
   front : (fs : List Entry) (e : Entry) → is_bound (bindings (fs ++ e ∷ [])) l ≡ false → is_bound (bindings fs) l ≡ false
   front fs e h = or_first (is_bound (bindings fs) l) (is_bound (binding e) l)
@@ -84,15 +82,23 @@ no_items es l = by_push (λ fs. is_bound (bindings fs) l ≡ false → items_of 
 pub no_items_of : (es : List Entry) (l : Labels) → has_series (series_of (bindings es)) l ≡ false → items_of l es ≡ []
 no_items_of es l h = no_items es l (sym (is_bound-series_of (bindings es) l) ∙ h)
 
--- the last time of a label set, with one entry more
+-- the items of a label set, with one entry more
 module _ (l : Labels) (es : List Entry) (e : Entry) where
   -- no item more
-  pub last_time-none : known_at es e ≡ [] → last_time (es ++ e ∷ []) l ≡ last_time es l
-  last_time-none h = ap (λ is. greatest (times_taken is)) (items_of-push l es e ∙ ap (λ ks. items_of l es ++ mine l ks) h ∙ append_none (items_of l es))
+  pub items_of-none : known_at es e ≡ [] → items_of l (es ++ e ∷ []) ≡ items_of l es
+  items_of-none h = items_of-push l es e ∙ ap (λ ks. items_of l es ++ mine l ks) h ∙ append_none (items_of l es)
 
-  -- one item more of the label set m
-  pub last_time-some : (m : Labels) (i : Item) → known_at es e ≡ (m, i) ∷ [] → last_time (es ++ e ∷ []) l ≡ (if same_labels l m then last_with (last_time es l) i else last_time es l)
-  last_time-some m i h = ap (λ is. greatest (times_taken is)) (items_of-push l es e ∙ ap (λ ks. items_of l es ++ mine l ks) h) ∙ at (same_labels l m) where
-    at : (b : Bool) → greatest (times_taken (items_of l es ++ map (λ (k : Labels × Item). k.1) (if b then (m, i) ∷ [] else []))) ≡ (if b then last_with (last_time es l) i else last_time es l)
-    at true = greatest_more (items_of l es) i
-    at false = ap (λ is. greatest (times_taken is)) (append_none (items_of l es))
+  -- one item more of the label set itself
+  pub items_of-own : (i : Item) → known_at es e ≡ (l, i) ∷ [] → items_of l (es ++ e ∷ []) ≡ items_of l es ++ i ∷ []
+  items_of-own i h =
+      items_of-push l es e
+      ∙ ap (λ ks. items_of l es ++ mine l ks) h
+      ∙ ap (λ b. items_of l es ++ map (λ (k : Labels × Item). k.1) (if b then (l, i) ∷ [] else [])) (labels_same.reflexive l)
+
+  -- one item more of another label set
+  pub items_of-other : (m : Labels) (i : Item) → known_at es e ≡ (m, i) ∷ [] → same_labels l m ≡ false → items_of l (es ++ e ∷ []) ≡ items_of l es
+  items_of-other m i h other =
+      items_of-push l es e
+      ∙ ap (λ ks. items_of l es ++ mine l ks) h
+      ∙ ap (λ b. items_of l es ++ map (λ (k : Labels × Item). k.1) (if b then (m, i) ∷ [] else [])) other
+      ∙ append_none (items_of l es)

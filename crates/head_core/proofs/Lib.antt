@@ -1,4 +1,3 @@
-pub mod Times
 pub mod Counting
 pub mod Lists
 pub mod Known
@@ -7,4 +6,5 @@ pub mod More
 pub mod Reading
 pub mod Limits
 pub mod Taking
+pub mod Binding
 pub mod Whole

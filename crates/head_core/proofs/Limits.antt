@@ -20,7 +20,7 @@ use Rattle.head_core.specs.declared.counts.Counts.{Counts}
 use Rattle.head_core.specs.Owners.{binding, bindings}
 use Rattle.head_core.specs.Counts.{Fate, bound, accepted, stale, unknown, hides, empty_stone, unknown_stone, fate_at, fates, is_fate, is_series, is_samples, is_stones, is_skipped, counts_of}
 use Rattle.head_core.specs.Content.{Content, IsContentOf, AreCountsWithin, IsWithinLimits}
-use Rattle.head_core.specs.Steps.{told, with_record, count_of_fate, count_of_class, IsOverTable, IsOver, Takes}
+use Rattle.head_core.specs.Steps.{ColumnLaw, told, with_record, count_of_fate, count_of_class, IsOverTable, IsOver, Takes}
 use Rattle.head_core.proofs.Counting.{count_more, counts_at, counts_by, tally, entries_of-push, record_more}
 use Rattle.head_core.proofs.Known.{bindings-push, label_sets}
 use Rattle.head_core.proofs.Shown.{told_is}
@@ -145,7 +145,7 @@ class_within c h (Stones ds) = h.stone_records
 class_within c h (Other kind) = h.skipped_records
 
 -- What was read is followed by an entry that is over a limit: no records with these entries, and whatever is behind them, are within the limits.
-module _ (a b c d : ℕ) {es : List Entry} {m : Content} (h : IsReadBy a b c d es m) (most : m.table.most ≡ 4294967295) (e : Entry) (more : List Entry) (rs : List WalRecord)
+module _ (law : ColumnLaw) (a b c d : ℕ) {es : List Entry} {m : Content} (h : IsReadBy a b c d es m) (most : m.table.most ≡ 4294967295) (e : Entry) (more : List Entry) (rs : List WalRecord)
     (are : entries_of rs ≡ es ++ e ∷ more) (w : IsWithinLimits rs) where
   split : entries_of rs ≡ (es ++ e ∷ []) ++ more
   split = are ∙ sym (append_assoc es (e ∷ []) more)
@@ -176,11 +176,11 @@ module _ (a b c d : ℕ) {es : List Entry} {m : Content} (h : IsReadBy a b c d e
     by (stone s) k o = o
 
   -- the entry's count has no room
-  over_count : count_of_fate (told m.table m.last_times e) m.counts ≡ 18446744073709551615 → ⊥
+  over_count : count_of_fate (told m.table m.histories e) m.counts ≡ 18446744073709551615 → ⊥
   over_count o =
       let f : Fate = fate_at es e in
       let n : tally es f ≡ 18446744073709551615 =
-      sym (ap (λ g. count_of_fate g m.counts) (told_is h.entries e) ∙ ap (count_of_fate f) h.counted ∙ count_at a b c d (tally es) f) ∙ o in
+      sym (ap (λ g. count_of_fate g m.counts) (told_is h.entries law e) ∙ ap (count_of_fate f) h.counted ∙ count_at a b c d (tally es) f) ∙ o in
       let one : tally (es ++ e ∷ []) f ≡ tally es f + 1 = count_more f es e ∙ ap (λ t. tally es f + (if t then 1 else 0)) (same_fate f) in
       let front = fates_front f (es ++ e ∷ []) more in
       let all : count_of_fate f (counts_of rs) ≡ tally ((es ++ e ∷ []) ++ more) f =
@@ -196,23 +196,16 @@ module _ (a b c d : ℕ) {es : List Entry} {m : Content} (h : IsReadBy a b c d e
 entries_split : (rs : List WalRecord) (r : WalRecord) (fs : List Entry) (e : Entry) (more : List Entry) → entries_in r ≡ fs ++ e ∷ more → entries_of (rs ++ r ∷ []) ≡ (entries_of rs ++ fs) ++ e ∷ more
 entries_split rs r fs e more k = entries_of-push rs r ∙ ap (λ gs. entries_of rs ++ gs) k ∙ sym (append_assoc (entries_of rs) fs (e ∷ more))
 
-module _ {rs : List WalRecord} {c : Content} (h : IsContentOf rs c) (r : WalRecord) where
-  -- Some entries of a record were taken, and the next is over a limit: with the record, the content is past the limits.
-  pub over_entries : (fs : List Entry) (e : Entry) (more : List Entry) (m : Content) → entries_in r ≡ fs ++ e ∷ more → Takes c fs m → m.table.most ≡ 4294967295
+module _ (law : ColumnLaw) {rs : List WalRecord} {c : Content} (h : IsContentOf rs c) (r : WalRecord) where
+  -- A record was counted and some of its entries were taken, and the next is over a limit: with the record, the content is past the limits.
+  pub over_entries : (fs : List Entry) (e : Entry) (more : List Entry) (m : Content) → entries_in r ≡ fs ++ e ∷ more → Takes (record c { counts = with_record r c.counts }) fs m → m.table.most ≡ 4294967295
       → IsOver m e → IsWithinLimits (rs ++ r ∷ []) → ⊥
   over_entries fs e more m k t most o w =
-      over_read (count_by is_series rs) (count_by is_samples rs) (count_by is_stones rs) (count_by is_skipped rs)
-      (takes_read (count_by is_series rs) (count_by is_samples rs) (count_by is_stones rs) (count_by is_skipped rs) fs (read_content rs c h) t)
+      over_read law (count_by is_series (rs ++ r ∷ [])) (count_by is_samples (rs ++ r ∷ [])) (count_by is_stones (rs ++ r ∷ [])) (count_by is_skipped (rs ++ r ∷ []))
+      (takes_read law (count_by is_series (rs ++ r ∷ [])) (count_by is_samples (rs ++ r ∷ [])) (count_by is_stones (rs ++ r ∷ [])) (count_by is_skipped (rs ++ r ∷ [])) fs (with_class law h r (entries_of rs) c (read_content rs c h)) t)
       most e more (rs ++ r ∷ []) (entries_split rs r fs e more k) w o
 
-  -- The same, where the record was counted before its entries were taken.
-  pub over_entries_first : (fs : List Entry) (e : Entry) (more : List Entry) (m : Content) → entries_in r ≡ fs ++ e ∷ more → Takes (record c { counts = with_record r c.counts }) fs m → m.table.most ≡ 4294967295
-      → IsOver m e → IsWithinLimits (rs ++ r ∷ []) → ⊥
-  over_entries_first fs e more m k t most o w =
-      over_read (count_by is_series (rs ++ r ∷ [])) (count_by is_samples (rs ++ r ∷ [])) (count_by is_stones (rs ++ r ∷ [])) (count_by is_skipped (rs ++ r ∷ []))
-      (takes_read (count_by is_series (rs ++ r ∷ [])) (count_by is_samples (rs ++ r ∷ [])) (count_by is_stones (rs ++ r ∷ [])) (count_by is_skipped (rs ++ r ∷ [])) fs (with_class h r (entries_of rs) c (read_content rs c h)) t)
-      most e more (rs ++ r ∷ []) (entries_split rs r fs e more k) w o
-
+module _ {rs : List WalRecord} {c : Content} (h : IsContentOf rs c) (r : WalRecord) where
   -- The count of the record's class has no room: with the record, the content is past the limits.
   pub over_class : count_of_class r c.counts ≡ 18446744073709551615 → IsWithinLimits (rs ++ r ∷ []) → ⊥
   over_class o w =

@@ -1,14 +1,36 @@
--- Lists without repeats, and a change at one place.
-use Rattle.std.proofs.Common.{◌≡◌, ℕ, zero, suc, Bool, true, false, List, [], ◌∷◌, ◌++◌, Some, ap, sym, subst, ◌∙◌, refl, set}
-use Rattle.std.specs.Prelude.{◌||◌, map, slice_get, if◌then◌else◌}
-use Rattle.std.specs.List.{list_any}
+-- Lists without repeats, lists place by place, and a change at one place.
+use Rattle.std.proofs.Common.{◌≡◌, ℕ, zero, suc, ◌+◌, Bool, true, false, List, [], ◌∷◌, ◌++◌, Some, ap, sym, subst, ◌∙◌, refl, set, length, arith}
+use Rattle.std.specs.Prelude.{◌||◌, slice_get, if◌then◌else◌}
+use Rattle.std.specs.List.{list_any, enumerate_from, AllZip}
 use Rattle.std.proofs.lemmas.List.Folds.{list_any-append}
 use Rattle.hw_bytes.specs.Lists.{if_new, distinct, IsSame}
 use Rattle.hw_bytes.proofs.Lists.{along-push, append_none, by_push, list_any-distinct}
 
-pub map_same : {A B : Type 0} (f g : A → B) (xs : List A) → ((x : A) → f x ≡ g x) → map f xs ≡ map g xs
-map_same f g [] e = refl
-map_same f g (x ∷ xs) e = ap (λ y. y ∷ map f xs) (e x) ∙ ap (λ ys. g x ∷ ys) (map_same f g xs e)
+module _ {A B : Type 0} where
+  pub AllZip-length : (P : A → B → Type 0) (xs : List A) (ys : List B) → AllZip P xs ys → length xs ≡ length ys
+  AllZip-length P [] [] h = refl
+  AllZip-length P [] (y ∷ ys) h = absurd h
+  AllZip-length P (x ∷ xs) [] h = absurd h
+  AllZip-length P (x ∷ xs) (y ∷ ys) h = ap suc (AllZip-length P xs ys h.1)
+
+  -- of the two at one place
+  pub AllZip-at : (P : A → B → Type 0) (xs : List A) (ys : List B) (p : ℕ) {x : A} {y : B} → AllZip P xs ys → slice_get xs p ≡ Some x → slice_get ys p ≡ Some y → P x y
+  AllZip-at P [] ys p h e f = cc
+  AllZip-at P (w ∷ xs) [] p h e f = absurd h
+  AllZip-at P (w ∷ xs) (z ∷ ys) zero {x} {y} h e f = subst (λ v. P v y) (let k : w ≡ x = cc in k) (subst (P w) (let k : z ≡ y = cc in k) h.0)
+  AllZip-at P (w ∷ xs) (z ∷ ys) (suc p) h e f = AllZip-at P xs ys p h.1 e f
+
+  pub AllZip-weaker : (P Q : A → B → Type 0) → ((x : A) (y : B) → P x y → Q x y) → (xs : List A) (ys : List B) → AllZip P xs ys → AllZip Q xs ys
+  AllZip-weaker P Q f [] [] h = tt
+  AllZip-weaker P Q f [] (y ∷ ys) h = absurd h
+  AllZip-weaker P Q f (x ∷ xs) [] h = absurd h
+  AllZip-weaker P Q f (x ∷ xs) (y ∷ ys) h = (f x y h.0, AllZip-weaker P Q f xs ys h.1)
+
+  pub AllZip-one_more : (P : A → B → Type 0) (xs : List A) (ys : List B) (x : A) (y : B) → AllZip P xs ys → P x y → AllZip P (xs ++ x ∷ []) (ys ++ y ∷ [])
+  AllZip-one_more P [] [] x y h k = (k, tt)
+  AllZip-one_more P [] (z ∷ ys) x y h k = absurd h
+  AllZip-one_more P (w ∷ xs) [] x y h k = absurd h
+  AllZip-one_more P (w ∷ xs) (z ∷ ys) x y h k = (h.0, AllZip-one_more P xs ys x y h.1 k)
 
 pub or_false : (a : Bool) → (a || false) ≡ a
 or_false true = refl
@@ -70,21 +92,28 @@ module _ {A : Type 0} (same : A → A → Bool) (law : IsSame same) where
   not_at x l (y ∷ ys) zero h e = subst (λ z. same x z ≡ false) (let k : y ≡ l = cc in k) (or_first (same x y) (list_any (same x) ys) h)
   not_at x l (y ∷ ys) (suc s) h e = not_at x l ys s (or_second (same x y) (list_any (same x) ys) h) e
 
-  module _ {B : Type 0} (f g : A → B) (l : A) where
-    none_changed : (xs : List A) → list_any (same l) xs ≡ false → map (λ x. if same x l then g x else f x) xs ≡ map f xs
-    none_changed [] h = refl
-    none_changed (x ∷ xs) h =
-        ap (λ b. (if b then g x else f x) ∷ map (λ x. if same x l then g x else f x) xs) (same_sym_false l x (or_first (same l x) (list_any (same l) xs) h))
-        ∙ ap (λ ys. f x ∷ ys) (none_changed xs (or_second (same l x) (list_any (same l) xs) h))
+  module _ {B : Type 0} (P Q : A → B → Type 0) (l : A) (others : (x : A) (y : B) → same x l ≡ false → P x y → Q x y) where
+    none_changed : (xs : List A) (ys : List B) → list_any (same l) xs ≡ false → AllZip P xs ys → AllZip Q xs ys
+    none_changed [] [] h k = tt
+    none_changed [] (y ∷ ys) h k = absurd k
+    none_changed (x ∷ xs) [] h k = absurd k
+    none_changed (x ∷ xs) (y ∷ ys) h k = (
+      others x y (same_sym_false l x (or_first (same l x) (list_any (same l) xs) h)) k.0,
+      none_changed xs ys (or_second (same l x) (list_any (same l) xs) h) k.1,
+    )
 
-    -- a change at one element is a change at its place
-    pub map-changed : (xs : List A) (s : ℕ) → AreApart xs → slice_get xs s ≡ Some l → map (λ x. if same x l then g x else f x) xs ≡ set (map f xs) s (g l)
-    map-changed [] s d e = cc
-    map-changed (x ∷ xs) zero d e =
+    -- a change at the place of one element, and what that does to the others
+    pub AllZip-changed : (xs : List A) (ys : List B) (p : ℕ) (y : B) → AreApart xs → slice_get xs p ≡ Some l → Q l y → AllZip P xs ys → AllZip Q xs (set ys p y)
+    AllZip-changed [] ys p y d e q h = cc
+    AllZip-changed (x ∷ xs) [] p y d e q h = absurd h
+    AllZip-changed (x ∷ xs) (z ∷ ys) zero y d e q h =
         let k : x ≡ l = cc in
-        ap (λ b. (if b then g x else f x) ∷ map (λ x. if same x l then g x else f x) xs) (subst (λ z. same x z ≡ true) k (law.reflexive x))
-        ∙ ap (λ ys. g x ∷ ys) (none_changed xs (subst (λ z. list_any (same z) xs ≡ false) k d.0))
-        ∙ ap (λ z. g z ∷ map f xs) k
-    map-changed (x ∷ xs) (suc s) d e =
-        ap (λ b. (if b then g x else f x) ∷ map (λ x. if same x l then g x else f x) xs) (not_at x l xs s d.0 e)
-        ∙ ap (λ ys. f x ∷ ys) (map-changed xs s d.1 e)
+        (subst (λ w. Q w y) (sym k) q, none_changed xs ys (subst (λ w. list_any (same w) xs ≡ false) k d.0) h.1)
+    AllZip-changed (x ∷ xs) (z ∷ ys) (suc p) y d e q h = (others x z (not_at x l xs p d.0 e) h.0, AllZip-changed xs ys p y d.1 e q h.1)
+
+-- numbered, with one more
+pub enumerate_from-push : {A : Type 0} (n : ℕ) (xs : List A) (x : A) → enumerate_from n (xs ++ x ∷ []) ≡ enumerate_from n xs ++ (n + length xs, x) ∷ []
+enumerate_from-push n [] x = ap (λ m. (m, x) ∷ []) (let k : n ≡ n + 0 = omega arith in k)
+enumerate_from-push n (y ∷ ys) x =
+    ap (λ zs. (n, y) ∷ zs) (enumerate_from-push (n + 1) ys x)
+    ∙ ap (λ m. (n, y) ∷ (enumerate_from (n + 1) ys ++ (m, x) ∷ [])) (let k : (n + 1) + length ys ≡ n + suc (length ys) = omega arith in k)

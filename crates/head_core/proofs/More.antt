@@ -1,28 +1,28 @@
 -- What is shown of the entries and of one entry more.
-use Rattle.std.proofs.Common.{◌≡◌, ℕ, ℤ, Bool, true, false, List, [], ◌∷◌, ◌++◌, Some, None, Option, ap, sym, subst, ◌∙◌, refl, get_or, set}
-use Rattle.std.specs.Prelude.{int_le, map, slice_get, if◌then◌else◌}
-use Rattle.std.specs.Option.{option_map, option_and_then}
-use Rattle.std.proofs.lemmas.List.{set-get_or}
-use Rattle.std.proofs.lemmas.Option.{slice_get-get_or, get_or_from_slice_get}
+use Rattle.std.proofs.Common.{◌≡◌, ℕ, ℤ, Bool, true, false, List, [], ◌∷◌, ◌++◌, Some, None, Option, ap, sym, subst, ◌∙◌, refl, length, ◌+◌, arith}
+use Rattle.std.specs.Prelude.{slice_get, if◌then◌else◌}
+use Rattle.std.specs.Option.{option_and_then}
 use Rattle.hw_bytes.specs.Lists.{if_new, distinct}
-use Rattle.hw_bytes.proofs.Lists.{along-push, append_none, map_push}
+use Rattle.hw_bytes.proofs.Lists.{along-push, append_none, map_push, fold-push}
 use Rattle.wal_record.specs.declared.record.SeriesEntry.{SeriesEntry}
 use Rattle.wal_record.specs.declared.record.SampleEntry.{SampleEntry}
 use Rattle.wal_record.specs.declared.record.StoneEntry.{StoneEntry}
 use Rattle.wal_record.specs.Labels.{same_labels}
 use Rattle.wal_record.specs.Entries.{Entry, series, sample, stone}
 use Rattle.wal_record.proofs.Equality.{labels_same}
-use Rattle.head_series.specs.Table.{Labels, Table, has_series, slot_at}
+use Rattle.head_column.specs.declared.items.Item.{Item}
+use Rattle.head_column.specs.Times.{later, greatest}
+use Rattle.head_column.specs.Histories.{IsHistoryOf, no_history, history_after}
+use Rattle.head_series.specs.Table.{has_series, slot_at}
 use Rattle.head_series.specs.Bindings.{Binding, IsTableOf, series_of}
+use Rattle.head_postings.specs.Postings.{Lists, IsPostingsOf}
 use Rattle.head_core.specs.Owners.{binding, bindings, owner}
-use Rattle.head_core.specs.Items.{sampled, deleted, greatest, times_taken}
-use Rattle.head_core.specs.Counts.{Fate, accepted, stale, with_owner, known_at, fate_at, time_at, accepted_times}
-use Rattle.head_core.specs.Content.{last_time, IsShownBy}
-use Rattle.head_core.specs.Steps.{told_sample, told, sample_last, sample_max, last_after, max_after, IsTableAfter}
-use Rattle.head_core.proofs.Lists.{map_same, AreApart-distinct, map-changed}
-use Rattle.head_core.proofs.Times.{greatest-push, last_with}
-use Rattle.head_core.proofs.Known.{bindings-push, label_sets, is_bound-series_of, no_items_of, last_time-none, last_time-some}
-use Rattle.head_core.proofs.Shown.{last_in, told_is}
+use Rattle.head_core.specs.Counts.{Fate, accepted, sample_item, stone_item, with_owner, known_at, fate_at, time_at, accepted_times, items_of}
+use Rattle.head_core.specs.Content.{Content, IsShownBy, AreHistoriesOf, by_slot}
+use Rattle.head_core.specs.Steps.{ColumnLaw, found, told, put_item, histories_after, max_item, max_after, ArePosted, IsStep}
+use Rattle.head_core.proofs.Lists.{AllZip-weaker, AllZip-one_more, AllZip-changed, AreApart-distinct, enumerate_from-push}
+use Rattle.head_core.proofs.Known.{bindings-push, label_sets, is_bound-series_of, no_items_of, items_of-none, items_of-own, items_of-other}
+use Rattle.head_core.proofs.Shown.{stands, unowned, told_is}
 
 -- what one binding more does to the series
 pub series_of-push : (bs : List Binding) (b : Binding) → series_of (bs ++ b ∷ []) ≡ series_of bs ++ (if has_series (series_of bs) b.labels then [] else b.labels ∷ [])
@@ -35,127 +35,111 @@ series_of-push bs b =
 accepted_times-push : (es : List Entry) (e : Entry) → accepted_times (es ++ e ∷ []) ≡ accepted_times es ++ time_at (fate_at es e) e
 accepted_times-push es e = along-push (λ before f. time_at (fate_at before f) f) es e
 
-sample_time : (ts : List ℤ) (f : Fate) (s : SampleEntry) → greatest (ts ++ time_at f (sample s)) ≡ sample_max f s.time (greatest ts)
-sample_time ts accepted s = greatest-push ts s.time
+sample_time : (ts : List ℤ) (f : Fate) (s : SampleEntry) → greatest (ts ++ time_at f (sample s)) ≡ max_item f (sample_item s) (greatest ts)
+sample_time ts accepted s = fold-push later None ts s.time
 sample_time ts f s = ap greatest (append_none ts)
 
-stone_time : (ts : List ℤ) (f : Fate) (d : StoneEntry) → greatest (ts ++ time_at f (stone d)) ≡ greatest ts
+stone_time : (ts : List ℤ) (f : Fate) (d : StoneEntry) → greatest (ts ++ time_at f (stone d)) ≡ max_item f (stone_item d) (greatest ts)
 stone_time ts accepted d = ap greatest (append_none ts)
 stone_time ts f d = ap greatest (append_none ts)
 
--- a sample changes the last time in its slot, if it is past it
-put_last_is : (p : ℕ) (o : Option ℤ) (t v : ℤ) (ls : List (Option ℤ)) → slice_get ls p ≡ Some o → sample_last (told_sample (Some o) t) (Some p) t ls ≡ set ls p (last_with o (sampled t v))
-put_last_is p None t v ls h = refl
-put_last_is p (Some u) t v ls h = at (int_le t u) where
-  at : (b : Bool) → sample_last (if b then stale else accepted) (Some p) t ls ≡ set ls p (if b then Some u else Some t)
-  at true = sym (set-get_or ls p None) ∙ ap (set ls p) (get_or_from_slice_get ls p (Some u) None h)
-  at false = refl
-
--- a deletion changes no last time
-last_time-stone : (es : List Entry) (d : StoneEntry) (l : Labels) → last_time (es ++ stone d ∷ []) l ≡ last_time es l
-last_time-stone es d l = by (owner es d.reference) refl where
-  either : (b : Bool) → (if b then last_time es l else last_time es l) ≡ last_time es l
-  either true = refl
-  either false = refl
-
-  by : (o : Option Labels) → owner es d.reference ≡ o → last_time (es ++ stone d ∷ []) l ≡ last_time es l
-  by None e = last_time-none l es (stone d) (ap (λ o. with_owner o (deleted d.min_time d.max_time)) e)
-  by (Some m) e = last_time-some l es (stone d) m (deleted d.min_time d.max_time) (ap (λ o. with_owner o (deleted d.min_time d.max_time)) e) ∙ either (same_labels l m)
-
-module _ {es : List Entry} {t : Table} {ls : List (Option ℤ)} {m : Option ℤ} (h : IsShownBy es t ls m) where
-  -- the last times, with an entry more that changes none
-  last_same : (e : Entry) → ((l : Labels) → last_time (es ++ e ∷ []) l ≡ last_time es l) → ls ≡ map (last_time (es ++ e ∷ [])) (series_of (bindings es))
-  last_same e k = h.last ∙ map_same (last_time es) (last_time (es ++ e ∷ [])) (series_of (bindings es)) (λ l. sym (k l))
-
-  max_is : (e : Entry) → max_after t ls m e ≡ greatest (accepted_times (es ++ e ∷ []))
+module _ (law : ColumnLaw) {es : List Entry} {c : Content} (h : IsShownBy es c) where
+  max_is : (e : Entry) → max_after c.table c.histories c.max_time e ≡ greatest (accepted_times (es ++ e ∷ []))
   max_is (series e) = h.greatest_time ∙ ap greatest (sym (accepted_times-push es (series e) ∙ append_none (accepted_times es)))
   max_is (sample s) =
-      ap (sample_max (told t ls (sample s)) s.time) h.greatest_time
-      ∙ ap (λ f. sample_max f s.time (greatest (accepted_times es))) (told_is h (sample s))
+      ap (max_item (told c.table c.histories (sample s)) (sample_item s)) h.greatest_time
+      ∙ ap (λ f. max_item f (sample_item s) (greatest (accepted_times es))) (told_is h law (sample s))
       ∙ sym (ap greatest (accepted_times-push es (sample s)) ∙ sample_time (accepted_times es) (fate_at es (sample s)) s)
-  max_is (stone d) = h.greatest_time ∙ sym (ap greatest (accepted_times-push es (stone d)) ∙ stone_time (accepted_times es) (fate_at es (stone d)) d)
+  max_is (stone d) =
+      ap (max_item (told c.table c.histories (stone d)) (stone_item d)) h.greatest_time
+      ∙ ap (λ f. max_item f (stone_item d) (greatest (accepted_times es))) (told_is h law (stone d))
+      ∙ sym (ap greatest (accepted_times-push es (stone d)) ∙ stone_time (accepted_times es) (fate_at es (stone d)) d)
 
-  -- a series entry more, with a table of the bindings and of its own
-  pub shown_series : (e : SeriesEntry) (u : Table) → IsTableOf (bindings es ++ binding (series e)) u → IsShownBy (es ++ series e ∷ []) u (last_after t ls (series e)) (max_after t ls m (series e))
-  shown_series e u k = record {
-    shown = subst (λ bs. IsTableOf bs u) (sym (bindings-push es (series e))) k;
-    last = at (has_series t.series e.labels) refl ∙ ap (map (last_time (es ++ series e ∷ []))) (sym grown);
-    greatest_time = max_is (series e);
-  } where
-    grown : series_of (bindings (es ++ series e ∷ [])) ≡ series_of (bindings es) ++ (if has_series t.series e.labels then [] else e.labels ∷ [])
-    grown =
-        ap series_of (bindings-push es (series e))
-        ∙ series_of-push (bindings es) (record { reference = e.reference; labels = e.labels })
-        ∙ ap (λ ss. series_of (bindings es) ++ (if has_series ss e.labels then [] else e.labels ∷ [])) (sym h.shown.series)
+  -- an entry that brings no item changes no history
+  same_histories : (e : Entry) → known_at es e ≡ [] → AreHistoriesOf (es ++ e ∷ []) (series_of (bindings es)) c.histories
+  same_histories e k =
+      AllZip-weaker (λ l x. IsHistoryOf (items_of l es) x) (λ l x. IsHistoryOf (items_of l (es ++ e ∷ [])) x)
+      (λ l x p. subst (λ is. IsHistoryOf is x) (sym (items_of-none l es e k)) p)
+      (series_of (bindings es)) c.histories h.histories
 
-    new : has_series t.series e.labels ≡ false → last_time (es ++ series e ∷ []) e.labels ≡ None
-    new f =
-        last_time-none e.labels es (series e) refl
-        ∙ ap (λ is. greatest (times_taken is)) (no_items_of es e.labels (ap (λ ss. has_series ss e.labels) (sym h.shown.series) ∙ f))
+  -- the histories and the series, with a series entry more
+  more_series : (e : SeriesEntry) → series_of (bindings (es ++ series e ∷ [])) ≡ series_of (bindings es) ++ (if has_series c.table.series e.labels then [] else e.labels ∷ [])
+  more_series e =
+      ap series_of (bindings-push es (series e))
+      ∙ series_of-push (bindings es) (record { reference = e.reference; labels = e.labels })
+      ∙ ap (λ ss. series_of (bindings es) ++ (if has_series ss e.labels then [] else e.labels ∷ [])) (sym h.shown.series)
 
-    at : (b : Bool) → has_series t.series e.labels ≡ b → (if b then ls else ls ++ None ∷ []) ≡ map (last_time (es ++ series e ∷ [])) (series_of (bindings es) ++ (if b then [] else e.labels ∷ []))
-    at true f = last_same (series e) (λ l. last_time-none l es (series e) refl) ∙ ap (map (last_time (es ++ series e ∷ []))) (sym (append_none (series_of (bindings es))))
-    at false f =
-        ap (λ os. os ++ None ∷ []) (last_same (series e) (λ l. last_time-none l es (series e) refl))
-        ∙ ap (λ o. map (last_time (es ++ series e ∷ [])) (series_of (bindings es)) ++ o ∷ []) (sym (new f))
-        ∙ sym (map_push (last_time (es ++ series e ∷ [])) (series_of (bindings es)) e.labels)
-
-  -- an item more: the same table
-  same_table : (e : Entry) → binding e ≡ [] → IsTableOf (bindings (es ++ e ∷ [])) t
-  same_table e k = subst (λ bs. IsTableOf bs t) (sym (bindings-push es e ∙ ap (λ bs. bindings es ++ bs) k ∙ append_none (bindings es))) h.shown
-
-  same_series : (e : Entry) → binding e ≡ [] → series_of (bindings es) ≡ series_of (bindings (es ++ e ∷ []))
-  same_series e k = sym (ap series_of (bindings-push es e ∙ ap (λ bs. bindings es ++ bs) k ∙ append_none (bindings es)))
-
-  -- the last times after a sample, by the slot of its reference
-  last_sample : (s : SampleEntry) (o : Option ℕ) → slot_at t s.reference ≡ o
-      → sample_last (told_sample (option_and_then (slice_get ls) o) s.time) o s.time ls ≡ map (last_time (es ++ sample s ∷ [])) (series_of (bindings es))
-  last_sample s None e = last_same (sample s) (λ l. last_time-none l es (sample s)
-      (ap (λ o. with_owner o (sampled s.time s.value)) (sym (h.shown.owners s.reference) ∙ ap (option_and_then (slice_get t.series)) e)))
-  last_sample s (Some p) e =
-      ap (λ x. sample_last (told_sample x s.time) (Some p) s.time ls) here
-      ∙ put_last_is p (last_time es l) s.time s.value ls here
-      ∙ ap (λ os. set os p (last_with (last_time es l) (sampled s.time s.value))) h.last
-      ∙ sym (map-changed same_labels labels_same (last_time es) (λ n. last_with (last_time es n) (sampled s.time s.value)) l (series_of (bindings es)) p (AreApart-distinct same_labels labels_same (label_sets (bindings es))) there)
-      ∙ sym (map_same (last_time (es ++ sample s ∷ [])) (λ n. if same_labels n l then last_with (last_time es n) (sampled s.time s.value) else last_time es n) (series_of (bindings es)) (λ n. last_time-some n es (sample s) l (sampled s.time s.value) known))
+  series_histories : (e : SeriesEntry) → AreHistoriesOf (es ++ series e ∷ []) (series_of (bindings (es ++ series e ∷ []))) (histories_after c.table c.histories (series e))
+  series_histories e =
+      subst (λ ls. AreHistoriesOf (es ++ series e ∷ []) ls (histories_after c.table c.histories (series e))) (sym (more_series e))
+      (by (has_series c.table.series e.labels) refl)
     where
-      l : Labels
-      l = get_or t.series p []
+      by : (b : Bool) → has_series c.table.series e.labels ≡ b
+          → AreHistoriesOf (es ++ series e ∷ []) (series_of (bindings es) ++ (if b then [] else e.labels ∷ [])) (if b then c.histories else c.histories ++ no_history ∷ [])
+      by true f = subst (λ ls. AreHistoriesOf (es ++ series e ∷ []) ls c.histories) (sym (append_none (series_of (bindings es)))) (same_histories (series e) refl)
+      by false f =
+          AllZip-one_more (λ l x. IsHistoryOf (items_of l (es ++ series e ∷ [])) x) (series_of (bindings es)) c.histories e.labels no_history
+          (same_histories (series e) refl)
+          (subst (λ is. IsHistoryOf is no_history) (sym (items_of-none e.labels es (series e) refl ∙ none)) law.start)
+        where
+          none : items_of e.labels es ≡ []
+          none = no_items_of es e.labels (ap (λ ss. has_series ss e.labels) (sym h.shown.series) ∙ f)
 
-      at : slice_get t.series p ≡ Some l
-      at = slice_get-get_or t.series p [] (h.shown.within s.reference p e)
+  series_postings : (e : SeriesEntry) (q : Lists) → ArePosted c.table c.postings e.labels q → IsPostingsOf (by_slot (series_of (bindings (es ++ series e ∷ [])))) q
+  series_postings e q k = subst (λ ls. IsPostingsOf (by_slot ls) q) (sym (more_series e)) (by (has_series c.table.series e.labels) refl) where
+    by : (b : Bool) → has_series c.table.series e.labels ≡ b → IsPostingsOf (by_slot (series_of (bindings es) ++ (if b then [] else e.labels ∷ []))) q
+    by true f =
+        subst (λ ls. IsPostingsOf (by_slot ls) q) (sym (append_none (series_of (bindings es))))
+        (subst (λ p. IsPostingsOf (by_slot (series_of (bindings es))) p) (sym (k.known f)) h.postings)
+    by false f =
+        let same = ap length h.shown.series in
+        let slot : length c.table.series ≡ 0 + length (series_of (bindings es)) = omega (arith, same) in
+        subst (λ ss. IsPostingsOf ss q)
+        (ap (λ n. by_slot (series_of (bindings es)) ++ (n, e.labels) ∷ []) slot ∙ sym (enumerate_from-push 0 (series_of (bindings es)) e.labels))
+        (k.new f (by_slot (series_of (bindings es))) h.postings)
 
-      there : slice_get (series_of (bindings es)) p ≡ Some l
-      there = ap (λ ss. slice_get ss p) (sym h.shown.series) ∙ at
+  -- one item more, by the slot of its reference
+  item_histories : (e : Entry) (r : ℕ) (i : Item) → known_at es e ≡ with_owner (owner es r) i
+      → AreHistoriesOf (es ++ e ∷ []) (series_of (bindings es)) (put_item (slot_at c.table r) (found c.table c.histories r) i c.histories)
+  item_histories e r i known = by (slot_at c.table r) refl where
+    by : (o : Option ℕ) → slot_at c.table r ≡ o → AreHistoriesOf (es ++ e ∷ []) (series_of (bindings es)) (put_item o (option_and_then (slice_get c.histories) o) i c.histories)
+    by None k = same_histories e (known ∙ ap (λ o. with_owner o i) (unowned h r k))
+    by (Some p) k =
+        let s = stands h r p k in
+        let own : known_at es e ≡ (s.labels, i) ∷ [] = known ∙ ap (λ o. with_owner o i) s.owned in
+        subst (λ o. AreHistoriesOf (es ++ e ∷ []) (series_of (bindings es)) (put_item (Some p) o i c.histories)) (sym s.here)
+        (AllZip-changed same_labels labels_same (λ l x. IsHistoryOf (items_of l es) x) (λ l x. IsHistoryOf (items_of l (es ++ e ∷ [])) x) s.labels
+        (λ l x other made. subst (λ is. IsHistoryOf is x) (sym (items_of-other l es e s.labels i own other)) made)
+        (series_of (bindings es)) c.histories p (history_after s.history i)
+        (AreApart-distinct same_labels labels_same (label_sets (bindings es))) s.there
+        (subst (λ is. IsHistoryOf is (history_after s.history i)) (sym (items_of-own s.labels es e i own)) (law.push (items_of s.labels es) s.history i s.made))
+        h.histories)
 
-      here : slice_get ls p ≡ Some (last_time es l)
-      here = last_in h p ∙ ap (option_map (last_time es)) at
+  same_bindings : (e : Entry) → binding e ≡ [] → bindings (es ++ e ∷ []) ≡ bindings es
+  same_bindings e k = bindings-push es e ∙ ap (λ bs. bindings es ++ bs) k ∙ append_none (bindings es)
 
-      known : known_at es (sample s) ≡ (l, sampled s.time s.value) ∷ []
-      known = ap (λ o. with_owner o (sampled s.time s.value)) (sym (h.shown.owners s.reference) ∙ ap (option_and_then (slice_get t.series)) e ∙ at)
-
-  pub shown_sample : (s : SampleEntry) → IsShownBy (es ++ sample s ∷ []) t (last_after t ls (sample s)) (max_after t ls m (sample s))
-  shown_sample s = record {
-    shown = same_table (sample s) refl;
-    last = last_sample s (slot_at t s.reference) refl ∙ ap (map (last_time (es ++ sample s ∷ []))) (same_series (sample s) refl);
-    greatest_time = max_is (sample s);
+  -- what is shown after an entry that brings an item to a reference
+  shown_item : (e : Entry) (r : ℕ) (i : Item) (d : Content) → binding e ≡ [] → known_at es e ≡ with_owner (owner es r) i
+      → d.table ≡ c.table → d.histories ≡ put_item (slot_at c.table r) (found c.table c.histories r) i c.histories → d.postings ≡ c.postings → d.max_time ≡ max_after c.table c.histories c.max_time e
+      → IsShownBy (es ++ e ∷ []) d
+  shown_item e r i d binds known table histories postings greatest_is = record {
+    shown = subst (λ bs. IsTableOf bs d.table) (sym (same_bindings e binds)) (subst (λ t. IsTableOf (bindings es) t) (sym table) h.shown);
+    histories =
+        subst (λ bs. AreHistoriesOf (es ++ e ∷ []) (series_of bs) d.histories) (sym (same_bindings e binds))
+        (subst (λ hs. AreHistoriesOf (es ++ e ∷ []) (series_of (bindings es)) hs) (sym histories) (item_histories e r i known));
+    postings =
+        subst (λ bs. IsPostingsOf (by_slot (series_of bs)) d.postings) (sym (same_bindings e binds))
+        (subst (λ p. IsPostingsOf (by_slot (series_of (bindings es))) p) (sym postings) h.postings);
+    greatest_time = greatest_is ∙ max_is e;
   }
 
-  pub shown_stone : (d : StoneEntry) → IsShownBy (es ++ stone d ∷ []) t (last_after t ls (stone d)) (max_after t ls m (stone d))
-  shown_stone d = record {
-    shown = same_table (stone d) refl;
-    last = last_same (stone d) (last_time-stone es d) ∙ ap (map (last_time (es ++ stone d ∷ []))) (same_series (stone d) refl);
-    greatest_time = max_is (stone d);
+  -- One entry more: what is shown after it is what the entries with it say.
+  pub shown_more : (e : Entry) (d : Content) → IsStep c e d → IsShownBy (es ++ e ∷ []) d
+  shown_more (series e) d s = record {
+    shown = subst (λ bs. IsTableOf bs d.table) (sym (bindings-push es (series e))) (s.table (bindings es) h.shown);
+    histories = subst (λ hs. AreHistoriesOf (es ++ series e ∷ []) (series_of (bindings (es ++ series e ∷ []))) hs) (sym s.histories) (series_histories e);
+    postings = series_postings e d.postings s.postings;
+    greatest_time = s.greatest ∙ max_is (series e);
   }
-
-  -- an entry that binds nothing
-  pub shown_item : (e : Entry) → binding e ≡ [] → IsShownBy (es ++ e ∷ []) t (last_after t ls e) (max_after t ls m e)
-  shown_item (series e) k = cc
-  shown_item (sample s) k = shown_sample s
-  shown_item (stone d) k = shown_stone d
-
-  -- One entry more, with whatever table the table became: what is shown after it is what the entries with it say.
-  pub shown_more : (e : Entry) (u : Table) → IsTableAfter t e u → IsShownBy (es ++ e ∷ []) u (last_after t ls e) (max_after t ls m e)
-  shown_more (series e) u k = shown_series e u (k (bindings es) h.shown)
-  shown_more (sample s) u k = subst (λ v. IsShownBy (es ++ sample s ∷ []) v (last_after t ls (sample s)) (max_after t ls m (sample s))) (sym k) (shown_sample s)
-  shown_more (stone d) u k = subst (λ v. IsShownBy (es ++ stone d ∷ []) v (last_after t ls (stone d)) (max_after t ls m (stone d))) (sym k) (shown_stone d)
+  shown_more (sample x) d s = shown_item (sample x) x.reference (sample_item x) d refl refl s.table s.histories s.postings s.greatest
+  shown_more (stone x) d s = shown_item (stone x) x.reference (stone_item x) d refl refl s.table s.histories s.postings s.greatest

@@ -1,22 +1,22 @@
--- What is shown of some entries, and of one entry more.
-use Rattle.std.proofs.Common.{◌≡◌, ℕ, ℤ, Bool, true, false, List, [], Some, None, Option, ap, sym, ◌∙◌, refl, length}
-use Rattle.std.specs.Prelude.{int_le, slice_get, if◌then◌else◌}
+-- What is shown of some entries.
+use Rattle.std.proofs.Common.{◌≡◌, ℕ, ◌<◌, List, [], Some, None, Option, ap, sym, subst, ◌∙◌, refl, length, get_or}
+use Rattle.std.specs.Prelude.{slice_get}
 use Rattle.std.specs.List.{flat_map}
-use Rattle.std.specs.Option.{option_map, option_and_then}
-use Rattle.std.proofs.lemmas.List.{length-map}
-use Rattle.std.proofs.lemmas.Option.{slice_get-map}
+use Rattle.std.specs.Option.{option_and_then}
+use Rattle.std.proofs.lemmas.Option.{slice_get-get_or}
 use Rattle.hw_bytes.specs.Lists.{distinct}
 use Rattle.wal_record.specs.Labels.{same_text}
 use Rattle.wal_record.specs.Entries.{Entry, series, sample, stone}
+use Rattle.head_column.specs.declared.items.Item.{Item}
+use Rattle.head_column.specs.Histories.{History, IsHistoryOf, no_history}
 use Rattle.head_series.specs.Texts.{texts_of}
 use Rattle.head_series.specs.Table.{Labels, Table, slot_at}
 use Rattle.head_series.specs.Bindings.{IsTableOf, series_of}
 use Rattle.head_core.specs.Owners.{bindings, owner}
-use Rattle.head_core.specs.Items.{sampled, deleted, taken, late, hiding, empty}
-use Rattle.head_core.specs.Counts.{accepted, stale, hides, empty_stone, items_of, fate_of, item_fate, fate_at}
-use Rattle.head_core.specs.Content.{last_time, IsShownBy}
-use Rattle.head_core.specs.Steps.{told_sample, told_stone, last_at, told, is_by}
-use Rattle.head_core.proofs.Times.{stale_is}
+use Rattle.head_core.specs.Counts.{sample_item, stone_item, items_of, fate_of, item_fate, fate_at}
+use Rattle.head_core.specs.Content.{Content, IsShownBy}
+use Rattle.head_core.specs.Steps.{ColumnLaw, told_item, found, told}
+use Rattle.head_core.proofs.Lists.{AllZip-length, AllZip-at}
 
 -- no entries
 pub table_none : (t : Table) → t.series ≡ [] → ((r : ℕ) → slot_at t r ≡ None) → t.greatest ≡ None → t.texts ≡ [] → IsTableOf [] t
@@ -28,48 +28,59 @@ table_none t none unbound least bare = record {
   texts = bare ∙ ap (λ ss. distinct same_text (flat_map texts_of ss)) (sym none);
 }
 
-pub shown_none : (t : Table) → IsTableOf [] t → IsShownBy [] t [] None
-shown_none t h = record { shown = h; last = refl; greatest_time = refl }
+-- what stands in the slot of a reference: its owner, and that one's history
+pub record Stands (es : List Entry) (c : Content) (r p : ℕ) : Type 0 where
+  pub labels : Labels
+  pub history : History
+  pub there : slice_get (series_of (bindings es)) p ≡ Some labels
+  pub owned : owner es r ≡ Some labels
+  pub here : slice_get c.histories p ≡ Some history
+  pub made : IsHistoryOf (items_of labels es) history
 
-told_taken : (o : Option ℤ) (t : ℤ) → told_sample (Some o) t ≡ fate_of (if is_by o t then late else taken)
-told_taken None t = refl
-told_taken (Some u) t = at (int_le t u) where
-  at : (b : Bool) → (if b then stale else accepted) ≡ fate_of (if b then late else taken)
-  at true = refl
-  at false = refl
+module _ {es : List Entry} {c : Content} (h : IsShownBy es c) where
+  -- each series has a history
+  pub one_each : length c.histories ≡ length c.table.series
+  one_each = sym (AllZip-length (λ l x. IsHistoryOf (items_of l es) x) (series_of (bindings es)) c.histories h.histories) ∙ ap length (sym h.shown.series)
 
-told_by_owner : (es : List Entry) (o : Option Labels) (t v : ℤ) → told_sample (option_map (last_time es) o) t ≡ item_fate es o (sampled t v)
-told_by_owner es None t v = refl
-told_by_owner es (Some l) t v = told_taken (last_time es l) t ∙ ap (λ b. fate_of (if b then late else taken)) (sym (stale_is (items_of l es) t))
+  pub stands : (r p : ℕ) → slot_at c.table r ≡ Some p → Stands es c r p
+  stands r p e = record {
+    labels = l;
+    history = x;
+    there = there;
+    owned = sym (h.shown.owners r) ∙ ap (option_and_then (slice_get c.table.series)) e ∙ at;
+    here = here;
+    made = AllZip-at (λ m y. IsHistoryOf (items_of m es) y) (series_of (bindings es)) c.histories p h.histories there here;
+  } where
+    l : Labels
+    l = get_or c.table.series p []
 
-stone_by_owner : (es : List Entry) (o : Option Labels) (a b : ℤ) → told_stone (option_map (last_time es) o) a b ≡ item_fate es o (deleted a b)
-stone_by_owner es None a b = refl
-stone_by_owner es (Some l) a b = at (int_le a b) where
-  at : (c : Bool) → (if c then hides else empty_stone) ≡ fate_of (if c then hiding else empty)
-  at true = refl
-  at false = refl
+    x : History
+    x = get_or c.histories p no_history
 
-module _ {es : List Entry} {t : Table} {ls : List (Option ℤ)} {m : Option ℤ} (h : IsShownBy es t ls m) where
-  -- each series has a last time
-  pub one_each : length ls ≡ length t.series
-  one_each = ap length h.last ∙ length-map (series_of (bindings es)) (last_time es) ∙ ap length (sym h.shown.series)
+    at : slice_get c.table.series p ≡ Some l
+    at = slice_get-get_or c.table.series p [] (h.shown.within r p e)
 
-  -- the last time in a slot is that of its label set
-  pub last_in : (p : ℕ) → slice_get ls p ≡ option_map (last_time es) (slice_get t.series p)
-  last_in p =
-      ap (λ os. slice_get os p) h.last
-      ∙ slice_get-map (last_time es) (series_of (bindings es)) p
-      ∙ ap (λ ss. option_map (last_time es) (slice_get ss p)) (sym h.shown.series)
+    there : slice_get (series_of (bindings es)) p ≡ Some l
+    there = ap (λ ss. slice_get ss p) (sym h.shown.series) ∙ at
 
-  -- the last time of the slot of a reference is that of its owner
-  pub last_at_is : (r : ℕ) → last_at t ls r ≡ option_map (last_time es) (owner es r)
-  last_at_is r = at (slot_at t r) ∙ ap (option_map (last_time es)) (h.shown.owners r) where
-    at : (o : Option ℕ) → option_and_then (slice_get ls) o ≡ option_map (last_time es) (option_and_then (slice_get t.series) o)
-    at None = refl
-    at (Some p) = last_in p
+    here : slice_get c.histories p ≡ Some x
+    here = slice_get-get_or c.histories p no_history (subst (λ n. p < n) (sym one_each) (h.shown.within r p e))
 
-  -- what becomes of an entry is told by what is shown
-  pub told_is : (e : Entry) → told t ls e ≡ fate_at es e
-  told_is (series e) = refl
-  told_is (sample s) = ap (λ o. told_sample o s.time) (last_at_is s.reference) ∙ told_by_owner es (owner es s.reference) s.time s.value
-  told_is (stone d) = ap (λ o. told_stone o d.min_time d.max_time) (last_at_is d.reference) ∙ stone_by_owner es (owner es d.reference) d.min_time d.max_time
+  -- a reference without a slot has no owner
+  pub unowned : (r : ℕ) → slot_at c.table r ≡ None → owner es r ≡ None
+  unowned r e = sym (h.shown.owners r) ∙ ap (option_and_then (slice_get c.table.series)) e
+
+  module _ (law : ColumnLaw) where
+    told_item_is : (r : ℕ) (i : Item) → told_item (found c.table c.histories r) i ≡ item_fate es (owner es r) i
+    told_item_is r i = by (slot_at c.table r) refl where
+      by : (o : Option ℕ) → slot_at c.table r ≡ o → told_item (option_and_then (slice_get c.histories) o) i ≡ item_fate es (owner es r) i
+      by None e = ap (λ o. item_fate es o i) (sym (unowned r e))
+      by (Some p) e =
+          let s = stands r p e in
+          ap (λ o. told_item o i) s.here ∙ ap fate_of (law.outcome (items_of s.labels es) s.history i s.made) ∙ ap (λ o. item_fate es o i) (sym s.owned)
+
+    -- what becomes of an entry is told by what is shown
+    pub told_is : (e : Entry) → told c.table c.histories e ≡ fate_at es e
+    told_is (series e) = refl
+    told_is (sample s) = told_item_is s.reference (sample_item s)
+    told_is (stone d) = told_item_is d.reference (stone_item d)

@@ -1,6 +1,9 @@
 -- What a head shows, and what its fields owe each other.
-use Rattle.std.specs.Prelude.{◌≡◌, ◌≤◌, ◌<◌, ℕ, ℤ, Bool, List, Option, Some, length}
-use Rattle.head_series.specs.Table.{Table, slot_at}
+use Rattle.std.specs.Prelude.{◌≡◌, ◌≤◌, ◌<◌, ℕ, Bool, List, All, length, slice_get, unwrap_or}
+use Rattle.head_column.specs.Histories.{History, no_history}
+use Rattle.head_series.specs.Table.{Table}
+use Rattle.head_postings.specs.Slots.{AreBelow}
+use Rattle.head_postings.specs.Postings.{Lists}
 use Rattle.head_core.specs.Content.{Content}
 
 -- the content of a head, and whether it has failed
@@ -8,9 +11,18 @@ pub record HeadValue : Type 0 where
   pub content : Content
   pub failed : Bool
 
--- each series has a last time, each slot a series, and the table has the limits of a head
-pub record IsWhole (table : Table) (last_times : List (Option ℤ)) : Type 0 where
-  pub one_each : length last_times ≡ length table.series
+-- the history of the series in a slot
+abbrev pub history_at : Content → ℕ → History
+history_at c slot = unwrap_or (slice_get c.histories slot) no_history
+
+-- each of these is the slot of a series
+abbrev pub AreSlots : Content → List ℕ → Type 0
+AreSlots c slots = All (λ s. s < length c.table.series) slots
+
+-- each series has a history, each slot of the postings a series, and the table has the limits of a head
+pub record IsWhole (table : Table) (columns : ℕ) (postings : Lists) : Type 0 where
+  pub one_each : columns ≡ length table.series
+  pub below : AreBelow (length table.series) postings.all
   pub limit : table.most ≡ 4294967295
   pub few : length table.series ≤ 4294967295
   pub few_texts : length table.texts ≤ 4294967295

@@ -1,5 +1,4 @@
 pub mod Owners
-pub mod Items
 pub mod Counts
 pub mod Content
 pub mod Steps

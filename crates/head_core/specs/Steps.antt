@@ -1,69 +1,65 @@
 -- Words of proofs and of private functions, cited by no public contract: what one entry does to what a head shows.
-use Rattle.std.specs.Prelude.{◌≡◌, ℕ, ◌+◌, ℤ, int_le, Bool, false, List, [], ◌∷◌, ◌++◌, ◌⊎◌, Option, None, Some, slice_get, slice_set, if◌then◌else◌}
+use Rattle.std.specs.Prelude.{◌≡◌, ℕ, ◌+◌, ℤ, true, false, List, [], ◌∷◌, ◌++◌, ◌⊎◌, Option, None, Some, length, slice_get, slice_set, if◌then◌else◌}
 use Rattle.std.specs.Option.{option_and_then}
 use Rattle.wal_record.specs.declared.record.WalRecord.{WalRecord}
 use Rattle.wal_record.specs.declared.record.WalRecord.TheVariants.{Series, Samples, Stones, Other}
 use Rattle.wal_record.specs.Entries.{Entry, series, sample, stone}
-use Rattle.head_series.specs.Table.{Table, has_series, slot_at, IsFull}
+use Rattle.head_column.specs.declared.items.Item.{Item}
+use Rattle.head_column.specs.declared.items.Item.TheVariants as item
+use Rattle.head_column.specs.Times.{later}
+use Rattle.head_column.specs.Items.{outcome_of}
+use Rattle.head_column.specs.Histories.{History, IsHistoryOf, no_history, history_after, history_outcome}
+use Rattle.head_series.specs.Table.{Labels, Table, has_series, slot_at, IsFull}
 use Rattle.head_series.specs.Bindings.{Binding, IsTableOf}
+use Rattle.head_postings.specs.Postings.{Lists, IsPostingsOf}
 use Rattle.head_core.specs.declared.counts.Counts.{Counts}
 use Rattle.head_core.specs.Owners.{binding}
-use Rattle.head_core.specs.Items.{later}
-use Rattle.head_core.specs.Counts.{Fate, bound, accepted, stale, unknown, hides, empty_stone, unknown_stone}
+use Rattle.head_core.specs.Counts.{Fate, bound, accepted, stale, unknown, hides, empty_stone, unknown_stone, sample_item, stone_item, fate_of, unknown_fate}
 use Rattle.head_core.specs.Content.{Content}
 
--- what becomes of a sample, by the last time of its series, if its reference has one
-abbrev pub told_sample : Option (Option ℤ) → ℤ → Fate
-told_sample None t = unknown
-told_sample (Some None) t = accepted
-told_sample (Some (Some u)) t = if int_le t u then stale else accepted
+-- What the proofs here use of head_column's law: a column's history is what its items make.
+pub record ColumnLaw : Type 0 where
+  pub start : IsHistoryOf [] no_history
+  pub push : (items : List Item) (h : History) (i : Item) → IsHistoryOf items h → IsHistoryOf (items ++ i ∷ []) (history_after h i)
+  pub outcome : (items : List Item) (h : History) (i : Item) → IsHistoryOf items h → history_outcome h i ≡ outcome_of items i
 
--- what becomes of a deletion, by the same
-abbrev pub told_stone : Option (Option ℤ) → ℤ → ℤ → Fate
-told_stone None a b = unknown_stone
-told_stone (Some x) a b = if int_le a b then hides else empty_stone
+-- what becomes of an item, by the history of its series, if it has one
+abbrev pub told_item : Option History → Item → Fate
+told_item None i = unknown_fate i
+told_item (Some h) i = fate_of (history_outcome h i)
 
--- the last time of the slot of a reference, if it has a slot
-abbrev pub last_at : Table → List (Option ℤ) → ℕ → Option (Option ℤ)
-last_at t ls r = option_and_then (slice_get ls) (slot_at t r)
+-- the history in the slot of a reference, if it has a slot
+abbrev pub found : Table → List History → ℕ → Option History
+found t hs r = option_and_then (slice_get hs) (slot_at t r)
 
 -- what becomes of an entry, by what is shown
-abbrev pub told : Table → List (Option ℤ) → Entry → Fate
-told t ls (series e) = bound
-told t ls (sample s) = told_sample (last_at t ls s.reference) s.time
-told t ls (stone d) = told_stone (last_at t ls d.reference) d.min_time d.max_time
+abbrev pub told : Table → List History → Entry → Fate
+told t hs (series e) = bound
+told t hs (sample s) = told_item (found t hs s.reference) (sample_item s)
+told t hs (stone d) = told_item (found t hs d.reference) (stone_item d)
 
--- the last times with this one in the slot, if there is a slot
-abbrev pub put_last : Option ℕ → ℤ → List (Option ℤ) → List (Option ℤ)
-put_last None t ls = ls
-put_last (Some s) t ls = slice_set ls s (Some t)
+-- the histories with the item come to the one in the slot, if there is one
+abbrev pub put_item : Option ℕ → Option History → Item → List History → List History
+put_item None h i hs = hs
+put_item (Some slot) None i hs = hs
+put_item (Some slot) (Some h) i hs = slice_set hs slot (history_after h i)
 
--- the last times once this became of a sample of the slot
-abbrev pub sample_last : Fate → Option ℕ → ℤ → List (Option ℤ) → List (Option ℤ)
-sample_last accepted s t ls = put_last s t ls
-sample_last fate s t ls = ls
+-- the histories after an entry
+abbrev pub histories_after : Table → List History → Entry → List History
+histories_after t hs (series e) = if has_series t.series e.labels then hs else hs ++ no_history ∷ []
+histories_after t hs (sample s) = put_item (slot_at t s.reference) (found t hs s.reference) (sample_item s) hs
+histories_after t hs (stone d) = put_item (slot_at t d.reference) (found t hs d.reference) (stone_item d) hs
 
--- the greatest time once this became of a sample
-abbrev pub sample_max : Fate → ℤ → Option ℤ → Option ℤ
-sample_max accepted t m = later m t
-sample_max fate t m = m
-
--- the last times after an entry
-abbrev pub last_after : Table → List (Option ℤ) → Entry → List (Option ℤ)
-last_after t ls (series e) = if has_series t.series e.labels then ls else ls ++ None ∷ []
-last_after t ls (sample s) = sample_last (told t ls (sample s)) (slot_at t s.reference) s.time ls
-last_after t ls (stone d) = ls
+-- the greatest time once this became of an item
+abbrev pub max_item : Fate → Item → Option ℤ → Option ℤ
+max_item accepted (item.Sample s) m = later m s.time
+max_item fate i m = m
 
 -- the greatest time after an entry
-abbrev pub max_after : Table → List (Option ℤ) → Option ℤ → Entry → Option ℤ
-max_after t ls m (series e) = m
-max_after t ls m (sample s) = sample_max (told t ls (sample s)) s.time m
-max_after t ls m (stone d) = m
-
--- a time is not past the last one
-abbrev pub is_by : Option ℤ → ℤ → Bool
-is_by None t = false
-is_by (Some u) t = int_le t u
+abbrev pub max_after : Table → List History → Option ℤ → Entry → Option ℤ
+max_after t hs m (series e) = m
+max_after t hs m (sample s) = max_item (told t hs (sample s)) (sample_item s) m
+max_after t hs m (stone d) = max_item (told t hs (stone d)) (stone_item d) m
 
 -- one entry of this fate more
 abbrev pub with_fate : Fate → Counts → Counts
@@ -105,9 +101,13 @@ IsOverTable t (series e) = IsFull t e.labels
 IsOverTable t (sample s) = ⊥
 IsOverTable t (stone d) = ⊥
 
+-- the count that an item would raise is the greatest of 64 bits
+abbrev pub IsOverItem : Content → ℕ → Item → Type 0
+IsOverItem c r i = count_of_fate (told_item (found c.table c.histories r) i) c.counts ≡ 18446744073709551615
+
 -- What keeps an entry from being taken: the table has no room for it, or the count that it would raise is the greatest of 64 bits, which is 2 ^ 64 - 1.
 abbrev pub IsOver : Content → Entry → Type 0
-IsOver c e = IsOverTable c.table e ⊎ (count_of_fate (told c.table c.last_times e) c.counts ≡ 18446744073709551615)
+IsOver c e = IsOverTable c.table e ⊎ (count_of_fate (told c.table c.histories e) c.counts ≡ 18446744073709551615)
 
 -- the table after an entry: whatever bindings it shows, with what the entry binds behind them
 abbrev pub IsTableAfter : Table → Entry → Table → Type 0
@@ -115,12 +115,32 @@ IsTableAfter t (series e) u = (bs : List Binding) → IsTableOf bs t → IsTable
 IsTableAfter t (sample s) u = u ≡ t
 IsTableAfter t (stone d) u = u ≡ t
 
+-- the postings after a series entry: a new series goes behind those that they were of
+pub record ArePosted (t : Table) (p : Lists) (labels : Labels) (q : Lists) : Type 0 where
+  pub known : has_series t.series labels ≡ true → q ≡ p
+  pub new : has_series t.series labels ≡ false → (sets : List (ℕ × Labels)) → IsPostingsOf sets p → IsPostingsOf (sets ++ (length t.series, labels) ∷ []) q
+
+-- the postings after an entry
+abbrev pub ArePostingsAfter : Table → Lists → Entry → Lists → Type 0
+ArePostingsAfter t p (series e) q = ArePosted t p e.labels q
+ArePostingsAfter t p (sample s) q = q ≡ p
+ArePostingsAfter t p (stone d) q = q ≡ p
+
+-- what is shown before and after an item that comes to a reference
+pub record IsItemStep (c : Content) (r : ℕ) (i : Item) (d : Content) : Type 0 where
+  pub table : d.table ≡ c.table
+  pub histories : d.histories ≡ put_item (slot_at c.table r) (found c.table c.histories r) i c.histories
+  pub postings : d.postings ≡ c.postings
+  pub greatest : d.max_time ≡ max_item (told_item (found c.table c.histories r) i) i c.max_time
+  pub counts : d.counts ≡ with_fate (told_item (found c.table c.histories r) i) c.counts
+
 -- what is shown before and after one entry
 pub record IsStep (c : Content) (e : Entry) (d : Content) : Type 0 where
   pub table : IsTableAfter c.table e d.table
-  pub last : d.last_times ≡ last_after c.table c.last_times e
-  pub greatest : d.max_time ≡ max_after c.table c.last_times c.max_time e
-  pub counts : d.counts ≡ with_fate (told c.table c.last_times e) c.counts
+  pub histories : d.histories ≡ histories_after c.table c.histories e
+  pub postings : ArePostingsAfter c.table c.postings e d.postings
+  pub greatest : d.max_time ≡ max_after c.table c.histories c.max_time e
+  pub counts : d.counts ≡ with_fate (told c.table c.histories e) c.counts
 
 -- what is shown before and after some entries, taken one after another
 pub data Takes (c : Content) : List Entry → Content → Type 0 where

@@ -1,7 +1,11 @@
 //! How many records and entries there were of each kind.
 
-ghost use Rattle.std.specs.Prelude.{◌≡◌};
-ghost use Rattle.head_core.specs.Steps.{no_counts};
+ghost use Rattle.std.specs.Prelude.{◌≡◌, ◌+◌, Err, OnErr, OnOk};
+ghost use Rattle.head_core.specs.Counts.{fate_of, unknown_fate};
+ghost use Rattle.head_core.specs.Steps.{count_of_fate, no_counts, with_fate};
+
+use crate::head::HeadFault;
+use head_column::{Item, Outcome};
 
 /// The counts of a log, in the order in which they are printed. A deletion is a *stone*.
 #[derive(Clone, Copy, Debug, PartialEq, Eq)]
@@ -17,6 +21,22 @@ pub struct Counts {
     pub hiding: u64,
     pub empty_stones: u64,
     pub unknown_stones: u64,
+}
+
+// One more, which is refused where there are 2^64 - 1.
+pub(crate) fn one_more(count: &mut u64) -> Result<(), HeadFault>
+    ensures more { OnOk result (count.new ≡ count.old + 1) }
+    ensures full { OnErr result ((count.old ≡ 18446744073709551615) × (count.new ≡ count.old)) }
+    ensures fault { result ≡ Err HeadFault.Memory → ⊥ }
+    ensures sound { result ≡ Err HeadFault.Failed → ⊥ }
+{
+    match count.checked_add(1) {
+        Some(more) => {
+            *count = more;
+            Ok(())
+        }
+        None => Err(HeadFault::Full),
+    }
 }
 
 impl Counts {
@@ -36,6 +56,34 @@ impl Counts {
             hiding: 0,
             empty_stones: 0,
             unknown_stones: 0,
+        }
+    }
+
+    // One more of what became of an item.
+    pub(crate) fn add_outcome(&mut self, outcome: Outcome) -> Result<(), HeadFault>
+        ensures more { OnOk result (self.new ≡ with_fate (fate_of outcome) self.old) }
+        ensures full { result ≡ Err HeadFault.Full → count_of_fate (fate_of outcome) self.old ≡ 18446744073709551615 }
+        ensures fault { result ≡ Err HeadFault.Memory → ⊥ }
+        ensures sound { result ≡ Err HeadFault.Failed → ⊥ }
+    {
+        match outcome {
+            Outcome::Accepted => one_more(&mut self.accepted),
+            Outcome::Stale => one_more(&mut self.stale),
+            Outcome::Hidden => one_more(&mut self.hiding),
+            Outcome::EmptyStone => one_more(&mut self.empty_stones),
+        }
+    }
+
+    // One more item whose reference has no owner.
+    pub(crate) fn add_unknown(&mut self, item: &Item) -> Result<(), HeadFault>
+        ensures more { OnOk result (self.new ≡ with_fate (unknown_fate item.now) self.old) }
+        ensures full { result ≡ Err HeadFault.Full → count_of_fate (unknown_fate item.now) self.old ≡ 18446744073709551615 }
+        ensures fault { result ≡ Err HeadFault.Memory → ⊥ }
+        ensures sound { result ≡ Err HeadFault.Failed → ⊥ }
+    {
+        match item {
+            Item::Sample(_) => one_more(&mut self.unknown),
+            Item::Stone(_) => one_more(&mut self.unknown_stones),
         }
     }
 }

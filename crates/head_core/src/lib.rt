@@ -1,7 +1,8 @@
 //! The live head: what the records of a log say, read one after another.
 //!
-//! A head keeps the series of a log, the references that name them, and what came to each. `replay_serial` reads a whole log into
-//! one. What becomes of an entry depends on the entries before it alone.
+//! A head keeps the series of a log, the references that name them, of each series its accepted samples and its hidden runs, and
+//! the series of each label. `replay_serial` reads a whole log into one. What becomes of an entry depends on the entries before
+//! it alone.
 #![tactic(auto)]
 
 mod counts;
@@ -10,6 +11,8 @@ mod replay;
 
 pub use counts::Counts;
 pub use head::{Head, HeadFault};
+pub use head_column::{Chunk, Hour, Run, Sample};
+pub use head_series::Slot;
 pub use replay::{ReplayFault, Replayed, replay_serial};
 
 #[cfg(test)]

@@ -1,5 +1,5 @@
 -- Spellings one after another.
-use Rattle.std.proofs.Common.{◌≡◌, ℕ, ◌+◌, ◌<◌, ◌≤◌, List, [], ◌∷◌, ◌++◌, length, take, drop, Option, Some, None, refl, sym, ap, subst, ◌∙◌, arith, append_assoc, IfSome, IfNone, inl, inr}
+use Rattle.std.proofs.Common.{◌≡◌, ℕ, zero, suc, ◌+◌, ◌<◌, ◌≤◌, List, [], ◌∷◌, ◌++◌, length, take, drop, Option, Some, None, refl, sym, ap, subst, ◌∙◌, arith, append_assoc, IfSome, IfNone, inl, inr}
 use Rattle.std.proofs.lemmas.Bool.{cases_lt}
 use Rattle.std.proofs.lemmas.List.{get_or-take, get_or_past, length-take, append-nil, drop_at, length-append, length-drop, length-take-le, take-append-drop, take_all, take-take, drop-take, get_or-drop}
 use Rattle.hw_bytes.specs.Spellings.{IsBytes, Each, IsAt, IsNowhere, IsCode}
@@ -14,6 +14,18 @@ bytes_take n bytes small i = elim (cases_lt i n) [
   | inl lt ↦ rw (get_or-take n bytes i 0 lt) (small i)
   | inr le ↦ rw (get_or_past (take n bytes) i 0 (omega (arith, length-take n bytes))) (omega arith)
 ]
+
+pub bytes_cons : (b : ℕ) (bytes : List ℕ) → b < 256 → IsBytes bytes → IsBytes (b ∷ bytes)
+bytes_cons b bytes byte small zero = byte
+bytes_cons b bytes byte small (suc i) = small i
+
+pub bytes_append : (front rest : List ℕ) → IsBytes front → IsBytes rest → IsBytes (front ++ rest)
+bytes_append [] rest f r = r
+bytes_append (b ∷ front) rest f r = bytes_cons b (front ++ rest) (f 0) (bytes_append front rest (λ i. f (suc i)) r)
+
+pub bytes_front : (front rest : List ℕ) → IsBytes (front ++ rest) → IsBytes front
+bytes_front [] rest h = λ i. omega arith
+bytes_front (b ∷ front) rest h = bytes_cons b front (h 0) (bytes_front front rest (λ i. h (suc i)))
 
 pub take_then : (n m : ℕ) (xs : List ℕ) → take (n + m) xs ≡ take n xs ++ take m (drop n xs)
 take_then n m xs = sym (take-append-drop n (take (n + m) xs)) ∙ ap (λ a. a ++ drop n (take (n + m) xs)) (take-take n (n + m) xs (omega arith)) ∙ ap (λ b. take n xs ++ b) (drop-take n m xs)

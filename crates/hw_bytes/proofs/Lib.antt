@@ -7,3 +7,4 @@ pub mod Texts
 pub mod Varints
 pub mod Vectors
 pub mod Lists
+pub mod Shortest

@@ -1,7 +1,8 @@
 -- Lists seen from the end, and lists without repeats.
 use Rattle.std.proofs.Common.{◌≡◌, Bool, true, false, List, [], ◌∷◌, ◌++◌, Some, None, Option, ap, sym, subst, ◌∙◌, refl, append_assoc, rules}
 use Rattle.std.specs.Prelude.{◌||◌, map, if◌then◌else◌}
-use Rattle.std.specs.List.{list_any, flat_map, fold}
+use Rattle.std.specs.List.{All, list_any, filter, flat_map, fold, scan}
+use Rattle.std.proofs.lemmas.List.Elements.{All-head, All-tail}
 use Rattle.std.proofs.lemmas.List.Folds.{list_any-append}
 use Rattle.hw_bytes.specs.Lists.{along, or_else, last_found, if_new, distinct}
 
@@ -74,3 +75,28 @@ flat_map-push f (y ∷ ys) x = ap (λ t. f y ++ t) (flat_map-push f ys x) ∙ sy
 pub fold-push : {A B : Type 0} (f : B → A → B) (b : B) (xs : List A) (x : A) → fold f b (xs ++ x ∷ []) ≡ f (fold f b xs) x
 fold-push f b [] x = refl
 fold-push f b (y ∷ ys) x = fold-push f (f b y) ys x
+
+-- a filter that keeps none, and one that keeps all
+pub filter_none : {A : Type 0} (p : A → Bool) (xs : List A) → All (λ x. p x ≡ false) xs → filter p xs ≡ []
+filter_none p [] h = refl
+filter_none p (x ∷ xs) h = (let no : p x ≡ false = All-head (λ x. p x ≡ false) x xs h in rw no (filter_none p xs (All-tail (λ x. p x ≡ false) x xs h)))
+
+pub filter_all : {A : Type 0} (p : A → Bool) (xs : List A) → All (λ x. p x ≡ true) xs → filter p xs ≡ xs
+filter_all p [] h = refl
+filter_all p (x ∷ xs) h = (let yes : p x ≡ true = All-head (λ x. p x ≡ true) x xs h in rw yes (ap (λ t. x ∷ t) (filter_all p xs (All-tail (λ x. p x ≡ true) x xs h))))
+
+-- a scan with one element more
+pub scan-push : {S X Y : Type 0} (next : S → X → S) (out : S → X → Y) (a : S) (xs : List X) (x : X) → scan next out a (xs ++ x ∷ []) ≡ scan next out a xs ++ out (fold next a xs) x ∷ []
+scan-push next out a [] x = refl
+scan-push next out a (y ∷ ys) x = ap (λ t. out a y ∷ t) (scan-push next out (next a y) ys x)
+
+-- a scan whose state tells of each element what f says of the elements before it and of it
+pub scan-along : {S X Y : Type 0} (next : S → X → S) (out : S → X → Y) (a : S) (f : List X → X → Y) → ((xs : List X) (x : X) → out (fold next a xs) x ≡ f xs x)
+    → (xs : List X) → scan next out a xs ≡ along (λ before x. f before x ∷ []) xs
+scan-along {X = X} next out a f e xs = by_push (λ ys. scan next out a ys ≡ along (λ before x. f before x ∷ []) ys) refl step xs where
+  step : (ys : List X) (y : X) → scan next out a ys ≡ along (λ before x. f before x ∷ []) ys → scan next out a (ys ++ y ∷ []) ≡ along (λ before x. f before x ∷ []) (ys ++ y ∷ [])
+  step ys y h =
+      scan-push next out a ys y
+      ∙ ap (λ zs. zs ++ out (fold next a ys) y ∷ []) h
+      ∙ ap (λ o. along (λ before x. f before x ∷ []) ys ++ o ∷ []) (e ys y)
+      ∙ sym (along-push (λ before x. f before x ∷ []) ys y)

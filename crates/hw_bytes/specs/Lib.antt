@@ -2,4 +2,5 @@ pub mod Checksum
 pub mod Spellings
 pub mod Numbers
 pub mod Reading
+pub mod Writing
 pub mod Lists

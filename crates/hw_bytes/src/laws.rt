@@ -1,9 +1,11 @@
 //! Laws of the definitions.
 
-ghost use Rattle.std.specs.Prelude.{◌<◌, ◌^◌, ℕ, List};
+ghost use Rattle.std.specs.Prelude.{◌<◌, ◌^◌, ℕ, ℤ, FitsSigned, List, length};
+ghost use Rattle.std.specs.Int.{w64};
 ghost use Rattle.hw_bytes.specs.Spellings.{IsBytes, IsCode};
 ghost use Rattle.hw_bytes.specs.Checksum.{crc32c};
 ghost use Rattle.hw_bytes.specs.Numbers.{IsFixed, IsUvarint, IsVarint, IsText};
+ghost use Rattle.hw_bytes.specs.Writing.{IsShortest, uvarint, varint, text};
 
 /// Bytes begin with at most one spelling of each form, and that one says one thing: so each reader below answers *the*
 /// spelling at the front.
@@ -12,6 +14,14 @@ pub fn one_spelling()
     ensures uvarint { IsCode IsUvarint }
     ensures varint { IsCode IsVarint }
     ensures text { IsCode IsText }
+{}
+
+/// What is written for a number of 64 bits, for a signed one, and for a text spells it, and there is no other spelling as
+/// short.
+pub fn shortest_spelling()
+    ensures uvarint { (n : ℕ) → n < 2 ^ 64 → IsShortest IsUvarint (uvarint n) n }
+    ensures varint { (z : ℤ) → FitsSigned w64 z → IsShortest IsVarint (varint z) z }
+    ensures text { (bytes : List ℕ) → IsBytes bytes → length bytes < 2 ^ 64 → IsShortest IsText (text bytes) bytes }
 {}
 
 /// A checksum has 32 bits.

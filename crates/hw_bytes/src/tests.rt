@@ -52,6 +52,63 @@ fn text_spellings(rt: HostRuntime) {
 }
 
 #[test]
+fn fixed_numbers_are_written_high_byte_first(rt: HostRuntime) -> Result<(), Fail> {
+    let mut bytes = Vec::new(rt.alloc());
+    put_be16(&mut bytes, 258)?;
+    assert_eq!(rt; bytes.as_slice(), b"\x01\x02".as_slice());
+    put_be32(&mut bytes, 258)?;
+    assert_eq!(rt; &bytes.as_slice()[2..], b"\0\0\x01\x02".as_slice());
+    put_be64(&mut bytes, 258)?;
+    assert_eq!(rt; &bytes.as_slice()[6..], b"\0\0\0\0\0\0\x01\x02".as_slice());
+    Ok(())
+}
+
+#[test]
+fn uvarints_are_written_shortest(rt: HostRuntime) -> Result<(), Fail> {
+    let mut bytes = Vec::new(rt.alloc());
+    put_uvarint(&mut bytes, 300)?;
+    assert_eq!(rt; bytes.as_slice(), b"\xAC\x02".as_slice());
+    bytes.clear();
+    put_uvarint(&mut bytes, u64::MAX)?;
+    assert_eq!(rt;
+        bytes.as_slice(),
+        b"\xFF\xFF\xFF\xFF\xFF\xFF\xFF\xFF\xFF\x01".as_slice()
+    );
+    bytes.clear();
+    put_uvarint(&mut bytes, 0)?;
+    assert_eq!(rt; bytes.as_slice(), b"\0".as_slice());
+    Ok(())
+}
+
+#[test]
+fn varints_are_written_shortest(rt: HostRuntime) -> Result<(), Fail> {
+    let mut bytes = Vec::new(rt.alloc());
+    put_varint(&mut bytes, -1)?;
+    assert_eq!(rt; bytes.as_slice(), b"\x01".as_slice());
+    put_varint(&mut bytes, 63)?;
+    assert_eq!(rt; &bytes.as_slice()[1..], b"\x7E".as_slice());
+    put_varint(&mut bytes, 64)?;
+    assert_eq!(rt; &bytes.as_slice()[2..], b"\x80\x01".as_slice());
+    bytes.clear();
+    put_varint(&mut bytes, i64::MIN)?;
+    assert_eq!(rt;
+        bytes.as_slice(),
+        b"\xFF\xFF\xFF\xFF\xFF\xFF\xFF\xFF\xFF\x01".as_slice()
+    );
+    Ok(())
+}
+
+#[test]
+fn texts_are_written_with_their_length(rt: HostRuntime) -> Result<(), Fail> {
+    let mut bytes = Vec::new(rt.alloc());
+    put_text(&mut bytes, b"job")?;
+    assert_eq!(rt; bytes.as_slice(), b"\x03job".as_slice());
+    put_text(&mut bytes, b"")?;
+    assert_eq!(rt; bytes.as_slice(), b"\x03job\0".as_slice());
+    Ok(())
+}
+
+#[test]
 fn items(rt: HostRuntime) -> Result<(), Fail> {
     let items = Items::from_vec([1u8, 2].to_vec(rt.alloc())?);
     assert_eq!(rt; items.len(), 2);

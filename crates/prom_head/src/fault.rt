@@ -8,6 +8,7 @@ ghost use Rattle.wal_log.specs.declared.input.InputFault.TheVariants as input;
 ghost use Rattle.head_core.specs.declared.replay.ReplayFault.TheVariants as replay;
 ghost use Rattle.prom_head.specs.declared.fault.Fault.TheVariants.{OutOfMemory, TooLarge};
 
+use crate::report::DamageLine;
 use crate::store::StoreFault;
 use clap::error::ErrorKind;
 use head_core::ReplayFault;
@@ -43,6 +44,12 @@ pub enum Fault {
     Usage(clap::Error),
     #[error("the arguments must be UTF-8")]
     NotUtf8,
+    /// The option `--pair` is no label as it is printed.
+    #[error("pair must be NAME=VALUE")]
+    NoPair,
+    /// The log is damaged. What stands before the damage was printed.
+    #[error("{0}")]
+    Damage(DamageLine),
     #[error("cannot read {path}")]
     CannotRead { path: String },
     #[error("cannot write standard output")]
@@ -71,7 +78,8 @@ impl Fault {
 
     pub fn status(&self) -> Status {
         match self {
-            Fault::Usage(_) | Fault::NotUtf8 => Status::Usage,
+            Fault::Usage(_) | Fault::NotUtf8 | Fault::NoPair => Status::Usage,
+            Fault::Damage(_) => Status::Damaged,
             Fault::CannotRead { .. }
             | Fault::CannotPrint
             | Fault::Gap

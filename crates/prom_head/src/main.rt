@@ -9,6 +9,7 @@ mod program;
 mod report;
 #[cfg(test)]
 mod shelf;
+mod spelling;
 mod store;
 #[cfg(test)]
 mod tests;

@@ -11,6 +11,8 @@ pub enum Request<'a> {
     Replay { dir: &'a str },
     /// To list the records of the log in a directory.
     Records { dir: &'a str },
+    /// To list the series of the log in a directory, or those of them that have a label, spelled as it is printed.
+    Series { dir: &'a str, pair: Option<&'a str> },
 }
 
 // These take the lifetime of the words, though their own texts are static, since the borrow checker does not shorten a
@@ -35,13 +37,28 @@ fn records<'a>(alloc: Global) -> Result<Command<'a>, AllocError> {
         .arg(dir(alloc))
 }
 
+fn pair<'a>(alloc: Global) -> Arg<'a> {
+    Arg::new(alloc, "pair")
+        .long("pair")
+        .value_name("NAME=VALUE")
+        .help("Only the series with this label, spelled as it is printed")
+}
+
+fn series<'a>(alloc: Global) -> Result<Command<'a>, AllocError> {
+    Command::new(alloc, "series")
+        .about("Lists the series of the log")
+        .arg(dir(alloc))?
+        .arg(pair(alloc))
+}
+
 fn command<'a>(alloc: Global) -> Result<Command<'a>, AllocError> {
     Command::new(alloc, "prom_head")
         .about("Reads a write-ahead log of samples")
         .subcommand_required(true)
         .disable_help_subcommand(true)
         .subcommand(replay(alloc)?)?
-        .subcommand(records(alloc)?)
+        .subcommand(records(alloc)?)?
+        .subcommand(series(alloc)?)
 }
 
 fn requested<'a>(matches: &ArgMatches<'a>) -> Option<Request<'a>> {
@@ -51,6 +68,10 @@ fn requested<'a>(matches: &ArgMatches<'a>) -> Option<Request<'a>> {
         }),
         ("records", of) => Some(Request::Records {
             dir: of.get_str("dir")?,
+        }),
+        ("series", of) => Some(Request::Series {
+            dir: of.get_str("dir")?,
+            pair: of.get_str("pair"),
         }),
         _ => None,
     }

@@ -4,11 +4,12 @@ use crate::directory::read_log;
 use crate::fault::{Fault, Status};
 use crate::options;
 use crate::options::Request;
-use crate::report::{counts_text, push_damage, records_text};
+use crate::report::{DamageLine, counts_text, push_damage, records_text, series_text};
+use crate::spelling::read_pair;
 use crate::store::Store;
-use head_core::replay_serial;
+use head_core::{Replayed, replay_serial};
 use std::alloc::Global;
-use wal_log::read_all;
+use wal_log::{Damage, read_all};
 
 /// What a run leaves.
 #[derive(Debug, Drop)]
@@ -29,6 +30,18 @@ impl Outcome {
         }
     }
 
+    // The outcome of a run that printed what stands before this damage, if there is any.
+    fn up_to(printed: String, damage: Option<Damage>) -> Outcome {
+        match damage {
+            None => Outcome::done(printed, Status::Done),
+            Some(damage) => Outcome {
+                printed,
+                fault: Some(Fault::Damage(DamageLine(damage))),
+                status: Status::Damaged,
+            },
+        }
+    }
+
     /// The outcome of a run that failed and prints nothing.
     pub fn failed(alloc: Global, fault: Fault) -> Outcome {
         Outcome {
@@ -39,33 +52,60 @@ impl Outcome {
     }
 }
 
-fn replay<S: Store>(alloc: Global, store: &mut S, dir: &str) -> Result<(String, Status), Fault> {
+fn replay<S: Store>(alloc: Global, store: &mut S, dir: &str) -> Result<Outcome, Fault> {
     let input = read_log(alloc, store, dir)?;
     let replayed = replay_serial(alloc, &input)?;
     let mut text = counts_text(alloc, &replayed.head)?;
     let status = push_damage(&mut text, replayed.damage)?;
-    Ok((text, status))
+    Ok(Outcome::done(text, status))
 }
 
-fn records<S: Store>(alloc: Global, store: &mut S, dir: &str) -> Result<(String, Status), Fault> {
+fn records<S: Store>(alloc: Global, store: &mut S, dir: &str) -> Result<Outcome, Fault> {
     let input = read_log(alloc, store, dir)?;
     let reading = read_all(alloc, &input)?;
     let mut text = records_text(alloc, &reading)?;
     let status = push_damage(&mut text, reading.damage)?;
-    Ok((text, status))
+    Ok(Outcome::done(text, status))
 }
 
-// Carries out a command line, and gives what it prints and the status to end with.
-fn execute<S: Store>(
+// A label as it was asked for: its name and its value.
+type Pair = (Vec<u8>, Vec<u8>);
+
+fn pair_of(alloc: Global, word: Option<&str>) -> Result<Option<Pair>, Fault> {
+    let Some(word) = word else {
+        return Ok(None);
+    };
+    match read_pair(alloc, word)? {
+        Some(pair) => Ok(Some(pair)),
+        None => Err(Fault::NoPair),
+    }
+}
+
+fn series<S: Store>(
     alloc: Global,
     store: &mut S,
-    words: &[String],
-) -> Result<(String, Status), Fault> {
+    dir: &str,
+    pair: Option<&str>,
+) -> Result<Outcome, Fault> {
+    let pair = pair_of(alloc, pair)?;
+    let input = read_log(alloc, store, dir)?;
+    let Replayed { head, damage } = replay_serial(alloc, &input)?;
+    let slots = match &pair {
+        Some((name, value)) => head.select(name, value),
+        None => head.all(),
+    };
+    let text = series_text(alloc, &head, slots)?;
+    Ok(Outcome::up_to(text, damage))
+}
+
+// Carries out a command line.
+fn execute<S: Store>(alloc: Global, store: &mut S, words: &[String]) -> Result<Outcome, Fault> {
     match options::parse(alloc, words) {
         Ok(Request::Replay { dir }) => replay(alloc, store, dir),
         Ok(Request::Records { dir }) => records(alloc, store, dir),
+        Ok(Request::Series { dir, pair }) => series(alloc, store, dir, pair),
         Err(error) if error.use_stderr() => Err(Fault::from(error)),
-        Err(help) => Ok((help.to_string(alloc)?, Status::Done)),
+        Err(help) => Ok(Outcome::done(help.to_string(alloc)?, Status::Done)),
     }
 }
 
@@ -73,7 +113,7 @@ fn execute<S: Store>(
 pub fn run<R: AllocGlobal, S: Store>(rt: &R, store: &mut S, words: &[String]) -> Outcome {
     let alloc = rt.alloc();
     match execute(alloc, store, words) {
-        Ok((printed, status)) => Outcome::done(printed, status),
+        Ok(outcome) => outcome,
         Err(fault) => Outcome::failed(alloc, fault),
     }
 }

@@ -1,6 +1,7 @@
 //! Runs of the program over a store in memory.
 
 mod fragments;
+mod listing;
 mod usage;
 
 use crate::program::{Outcome, run};

@@ -208,3 +208,36 @@ pub const LAST_OF_7_239: &[u8] = b"\x04\x1c\x47\xf5\x24\x58\x13";
 // A record of samples in two parts, of which the last, a zero byte, is left over.
 pub const BAD_RECORD_IN_TWO_PARTS: &[u8] =
     b"\x02\0\x01\xb3\x46\x23\xa6\x02\x04\0\x01\x52\x7d\x53\x51\0";
+
+// s(1 job=b) s(2 job=a) s(3 zone=c)
+pub const THREE_SERIES: &[u8] = b"\x01\x00\x2f\x74\x80\x19\xa3\
+    \x01\
+    \0\0\0\0\0\0\0\x01\
+    \x01\x03job\x01b\
+    \0\0\0\0\0\0\0\x02\
+    \x01\x03job\x01a\
+    \0\0\0\0\0\0\0\x03\
+    \x01\x04zone\x01c";
+
+// v(1,1000,10) v(2,2000,20) v(1,3000,11) v(3,3600000,30)
+pub const SAMPLES_OF_THREE_SERIES: &[u8] = b"\x01\x00\x3e\x32\x1a\x55\x63\
+    \x02\
+    \0\0\0\0\0\0\0\x01\0\0\0\0\0\0\x03\xe8\
+    \x00\x00\0\0\0\0\0\0\0\x0a\
+    \x02\xd0\x0f\0\0\0\0\0\0\0\x14\
+    \x00\xa0\x1f\0\0\0\0\0\0\0\x0b\
+    \x04\xb0\xaa\xb7\x03\0\0\0\0\0\0\0\x1e";
+
+// A series with the label a, whose value is the three bytes `a b`.
+pub const SERIES_WITH_A_SPACE: &[u8] = b"\x01\x00\x10\x74\xaf\x7d\xaa\
+    \x01\
+    \0\0\0\0\0\0\0\x01\
+    \x01\x01a\x03a b";
+
+// A series without labels, and one whose label has bytes of all kinds.
+pub const SERIES_OF_ODD_BYTES: &[u8] = b"\x01\x00\x1f\x58\x3c\xc4\xbb\
+    \x01\
+    \0\0\0\0\0\0\0\x01\
+    \x00\
+    \0\0\0\0\0\0\0\x02\
+    \x01\x02\0=\x08!~\\=\x20\x7f\xff\n";

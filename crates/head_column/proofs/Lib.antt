@@ -1,0 +1,12 @@
+pub mod Bools
+pub mod Merged
+pub mod OneRuns
+pub mod Rising
+pub mod Stale
+pub mod HistoryLaws
+pub mod TallyLaws
+pub mod HourLaws
+pub mod ReadLaws
+pub mod SampleCodes
+pub mod Texts
+pub mod Windows

@@ -1,0 +1,19 @@
+-- Hours of times in milliseconds.
+use Rattle.std.specs.Prelude.{ℤ, pos, ◌+ℤ◌, ◌*ℤ◌, ◌&&◌, Bool, IsTrue, FitsSigned, int_le, int_lt}
+use Rattle.std.specs.Int.{w64}
+
+-- the time at which hour k begins
+abbrev pub hour_start : ℤ → ℤ
+hour_start k = k *ℤ pos 3600000
+
+-- hour k is the times from its start up to, and without, the start of the next hour
+abbrev pub is_in_hour : ℤ → ℤ → Bool
+is_in_hour k t = int_le (hour_start k) t && int_lt t (hour_start (k +ℤ pos 1))
+
+-- a time of 64 bits is in the hour
+abbrev pub HasTime : ℤ → Type 0
+HasTime k = (t : ℤ) × FitsSigned w64 t × IsTrue (is_in_hour k t)
+
+-- the hour has a time that is not one of 64 bits
+abbrev pub IsEdge : ℤ → Type 0
+IsEdge k = (t : ℤ) × (FitsSigned w64 t → ⊥) × IsTrue (is_in_hour k t)

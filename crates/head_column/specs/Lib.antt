@@ -1,0 +1,10 @@
+pub mod Samples
+pub mod Times
+pub mod Runs
+pub mod Merging
+pub mod Items
+pub mod Histories
+pub mod Tallies
+pub mod Hours
+pub mod Chunks
+pub mod Reading

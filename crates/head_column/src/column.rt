@@ -1,0 +1,171 @@
+//! One series, built item by item.
+
+ghost use Rattle.std.specs.Prelude.{◌≡◌, ◌+◌, ◌<◌, ◌≤◌, ◌∷◌, ◌++◌, [], ℕ, List, IfOk, IsOk, OnErr, OnOk, filter, length};
+ghost use Rattle.head_column.specs.declared.items.Item.{Item as AnItem};
+ghost use Rattle.head_column.specs.Histories.{IsHistoryOf, history_after, history_outcome, latest, no_history};
+ghost use Rattle.head_column.specs.Items.{outcome_of};
+ghost use Rattle.head_column.specs.Runs.{AreApart};
+ghost use Rattle.head_column.specs.Samples.{Rises};
+ghost use Rattle.head_column.specs.Hours.{is_in_hour};
+ghost use Rattle.head_column.specs.Chunks.{chunks_of};
+
+use crate::cutting::cut_chunks;
+use crate::runs::merge;
+use crate::times::{has_reached, latest};
+use crate::{Chunk, Hour, Item, Outcome, Run, Sample};
+use head_deal::Builder;
+use std::alloc::{AllocError, Global};
+use std::marker::Model;
+
+/// The accepted samples of one series, and the runs of its hidden times. Contracts see its history, and beside it a number,
+/// `spare`: so many items it takes for certain without more memory.
+#[derive(Debug, Drop)]
+pub struct Column {
+    samples: Vec<Sample>,
+    hidden: Vec<Run>,
+}
+
+impl Model for Column {
+    ghost use Rattle.std.specs.Prelude.{min, ◌-◌, vec_len};
+    ghost use Rattle.std.specs.Vec.{vec_capacity};
+    ghost use Rattle.head_column.specs.Histories.{ColumnValue};
+    ghost use Rattle.head_column.specs.Runs.{AreApart};
+    ghost use Rattle.head_column.specs.Samples.{Rises};
+
+    ghost Value = { ColumnValue };
+
+    ghost view = { λ c. record {
+      history = record { samples = c.samples.items; hidden = c.hidden.items };
+      spare = min (vec_capacity c.samples - vec_len c.samples) (vec_capacity c.hidden - vec_len c.hidden);
+    } };
+
+    ghost invariant = { λ c. Rises c.samples.items × AreApart c.hidden.items };
+}
+
+impl Column {
+    /// A series to which nothing came yet.
+    pub fn new(alloc: Global) -> Column
+        ensures history { result.history ≡ no_history }
+        ensures items { IsHistoryOf [] result.history }
+    {
+        Column {
+            samples: Vec::new(alloc),
+            hidden: Vec::new(alloc),
+        }
+    }
+
+    /// How many samples were accepted.
+    pub fn len(&self) -> usize
+        ensures { result ≡ length self.now.history.samples }
+    {
+        self.samples.len()
+    }
+
+    /// The greatest time of the accepted samples, in milliseconds, or `None` if there are none.
+    pub fn max_time(&self) -> Option<i64>
+        ensures { result ≡ latest self.now.history.samples }
+    {
+        latest(&self.samples)
+    }
+
+    /// The runs of the hidden times: each has a time, they ascend, and between two of them lies a time that is not hidden.
+    pub fn hidden(&self) -> &[Run]
+        ensures runs { result.now ≡ self.now.history.hidden }
+        ensures apart { AreApart result.now }
+    {
+        self.hidden.as_slice()
+    }
+
+    /// A copy of the accepted samples, in their order, in memory of its own. Each time is past the one before it.
+    pub fn samples(&self) -> Result<Vec<Sample>, AllocError>
+        ensures samples { IfOk result (λ samples. samples.items ≡ self.now.history.samples) }
+        ensures rises { IfOk result (λ samples. Rises samples.items) }
+    {
+        Vec::from_slice(*self.samples.allocator(), self.samples_slice())
+    }
+
+    /// The accepted samples of an hour in chunks, cut by 120 from the first one in it, the last chunk with fewer.
+    pub fn chunks_in(&self, hour: Hour) -> Result<Vec<Chunk>, AllocError>
+        ensures { IfOk result (λ chunks. chunks.items ≡ chunks_of (filter (λ s. is_in_hour hour s.time) self.now.history.samples)) }
+    {
+        cut_chunks(*self.samples.allocator(), self.samples_slice(), hour)
+    }
+
+    /// The accepted samples, lent.
+    pub(crate) fn samples_slice(&self) -> &[Sample]
+        ensures samples { result.now ≡ self.now.history.samples }
+        ensures rises { Rises result.now }
+    {
+        self.samples.as_slice()
+    }
+
+    /// Makes room for this many items, whatever they are. The history is the same on both answers, and no room is lost.
+    pub fn reserve(&mut self, items: usize) -> Result<(), AllocError>
+        ensures history { self.new.history ≡ self.old.history }
+        ensures room { OnOk result (items ≤ self.new.spare) }
+        ensures spare { self.old.spare ≤ self.new.spare }
+    {
+        self.samples.reserve(items)?;
+        self.hidden.reserve(items)?;
+        Ok(())
+    }
+
+    // Takes one item, as `apply` does.
+    fn take(&mut self, item: &Item) -> Result<Outcome, AllocError>
+        ensures changed { OnOk result (self.new.history ≡ history_after self.old.history item.now) }
+        ensures told { IfOk result (λ told. told ≡ history_outcome self.old.history item.now) }
+        ensures refused { OnErr result (self.new.history ≡ self.old.history) }
+        ensures room { 0 < self.old.spare → IsOk result }
+        ensures spare { self.old.spare ≤ self.new.spare + 1 }
+    {
+        match item {
+            Item::Sample(sample) => {
+                if has_reached(&self.samples, sample.time) {
+                    return Ok(Outcome::Stale);
+                }
+                self.samples.push(*sample)?;
+                Ok(Outcome::Accepted)
+            }
+            Item::Stone(run) => {
+                if run.min_time > run.max_time {
+                    return Ok(Outcome::EmptyStone);
+                }
+                merge(&mut self.hidden, *run)?;
+                Ok(Outcome::Hidden)
+            }
+        }
+    }
+}
+
+impl Builder for Column {
+    ghost use Rattle.head_column.specs.Histories.{History, history_after, history_outcome};
+
+    type Item = Item;
+
+    type Outcome = Outcome;
+
+    ghost Value = { History };
+
+    ghost value = { λ c. c.history };
+
+    ghost after = { history_after };
+
+    ghost outcome = { history_outcome };
+
+    /// Takes one item. A stale sample and an empty deletion change nothing. A deletion costs no more than the runs that there
+    /// are. Memory is refused only where `spare` was 0, and the history is then unchanged.
+    fn apply(&mut self, item: &Item) -> Result<Outcome, AllocError>
+        ensures changed { OnOk result (self.new.history ≡ history_after self.old.history item.now) }
+        ensures told { IfOk result (λ told. told ≡ history_outcome self.old.history item.now) }
+        ensures refused { OnErr result (self.new.history ≡ self.old.history) }
+
+        // What the items so far and this one make, and what becomes of this one.
+        ensures items { (items : List AnItem) → IsHistoryOf items self.old.history → OnOk result (IsHistoryOf (items ++ item.now ∷ []) self.new.history) }
+        ensures verdict { (items : List AnItem) → IsHistoryOf items self.old.history → IfOk result (λ told. told ≡ outcome_of items item.now) }
+
+        ensures room { 0 < self.old.spare → IsOk result }
+        ensures spare { self.old.spare ≤ self.new.spare + 1 }
+    {
+        self.take(item)
+    }
+}

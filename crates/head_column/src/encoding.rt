@@ -1,0 +1,47 @@
+//! Samples as the text of a chunk.
+
+ghost use Rattle.std.specs.Prelude.{◌≡◌, ◌<◌, ◌≤◌, ◌++◌, length, IfOk, OnOk};
+ghost use Rattle.head_column.specs.Samples.{Rises};
+ghost use Rattle.head_column.specs.Chunks.{IsFit, time_text, sample_text, chunk_text};
+
+use crate::items::Sample;
+use hw_bytes::{put_be16, put_be64, put_uvarint, put_varint};
+use std::alloc::{AllocError, Global};
+
+// Puts a time behind the bytes, the first one or the next after another.
+fn put_time(bytes: &mut Vec<u8>, before: Option<i64>, time: i64) -> Result<(), AllocError>
+    ensures { OnOk result (bytes.new.items ≡ bytes.old.items ++ time_text before time) }
+{
+    match before {
+        None => put_varint(bytes, time),
+        Some(before) => put_uvarint(bytes, time.abs_diff(before)),
+    }
+}
+
+// Puts a sample behind the bytes, after one at the time `before` if there is one.
+fn put_sample(bytes: &mut Vec<u8>, before: Option<i64>, sample: &Sample) -> Result<(), AllocError>
+    ensures put { OnOk result (bytes.new.items ≡ bytes.old.items ++ sample_text before sample.now) }
+    ensures fit { OnOk result (IsFit sample.now) }
+{
+    put_time(bytes, before, sample.time)?;
+    put_be64(bytes, sample.value.cast_unsigned())
+}
+
+/// The text of a chunk: how many samples there are in two bytes, big-endian, and then for each sample its time and its
+/// value. The time of the first one is a varint, each later time a uvarint of the difference to the one before, and the
+/// values have eight bytes, big-endian, two's complement.
+pub fn encode_chunk(alloc: Global, samples: &[Sample]) -> Result<Vec<u8>, AllocError>
+    requires some { 0 < length samples.now }
+    requires few { length samples.now ≤ 120 }
+    requires rises { Rises samples.now }
+    ensures { IfOk result (λ text. text.items ≡ chunk_text samples.now) }
+{
+    let mut text = Vec::new(alloc);
+    put_be16(&mut text, samples.len() as u16)?;
+    let mut before = None;
+    for sample in samples {
+        put_sample(&mut text, before, sample)?;
+        before = Some(sample.time);
+    }
+    Ok(text)
+}

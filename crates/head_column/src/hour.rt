@@ -1,0 +1,68 @@
+//! Hours of times.
+
+ghost use Rattle.std.specs.Prelude.{◌≡◌, ◌↔◌, IsTrue, IfSome, IfNone};
+ghost use Rattle.head_column.specs.Hours.{is_in_hour, HasTime, IsEdge};
+
+use std::marker::Model;
+
+// In milliseconds.
+const LENGTH: i64 = 3_600_000;
+
+// The hours of the least and of the greatest time. The least time does not begin its hour, so it is in the one below what
+// rounding toward zero gives.
+const FIRST: i64 = i64::MIN / LENGTH - 1;
+
+const LAST: i64 = i64::MAX / LENGTH;
+
+/// An hour of times in milliseconds: hour k is the times from k * 3600000 up to, and without, (k + 1) * 3600000. At least
+/// one of its times is an `i64`. Contracts see it as the number k.
+#[derive(Clone, Copy, Debug, PartialEq, Eq)]
+pub struct Hour(i64);
+
+impl Model for Hour {
+    ghost use Rattle.std.specs.Prelude.{ℤ, pos, negsuc, ◌≤ℤ◌};
+
+    ghost Value = { ℤ };
+
+    ghost view = { λ h. h.0 };
+
+    ghost inverse = { λ k. record { 0 = k } };
+
+    ghost invariant = { λ h. (negsuc 2562047788015 ≤ℤ h.0) × (h.0 ≤ℤ pos 2562047788015) };
+}
+
+impl Hour {
+    /// The hour of the time: the time divided by 3600000, rounded down.
+    pub fn of(time: i64) -> Hour
+        ensures { IsTrue (is_in_hour result time) }
+    {
+        Hour(time.div_euclid(LENGTH))
+    }
+
+    /// Hour k; `None` where none of its times is an `i64`.
+    pub fn new(k: i64) -> Option<Hour>
+        ensures some { IfSome result (λ hour. (hour ≡ k) × HasTime k) }
+        ensures none { IfNone result (HasTime k → ⊥) }
+    {
+        if k < FIRST || LAST < k {
+            return None;
+        }
+        Some(Hour(k))
+    }
+
+    /// Its number. By `held` a caller learns what holds of every hour.
+    pub fn k(self) -> i64
+        ensures number { result ≡ self }
+        ensures held { HasTime self }
+    {
+        self.0
+    }
+
+    /// Whether one of its times is not an `i64`: it begins before the least one, or ends past the greatest.
+    pub fn is_edge(self) -> bool
+        ensures { IsTrue result ↔ IsEdge self }
+    {
+        let k = self.k();
+        k == FIRST || k == LAST
+    }
+}

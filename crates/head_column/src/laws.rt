@@ -1,0 +1,49 @@
+//! What the definitions say of each other.
+
+ghost use Rattle.std.specs.Prelude.{◌≡◌, ◌↔◌, ◌⊎◌, ◌∷◌, ◌++◌, [], ℤ, pos, negsuc, ◌+ℤ◌, ◌-ℤ◌, ◌≤ℤ◌, Bool, IsTrue, FitsSigned, List, None};
+ghost use Rattle.std.specs.List.{scan};
+ghost use Rattle.head_column.specs.declared.items.Item.{Item as AnItem};
+ghost use Rattle.head_column.specs.declared.items.Run.{Run as ARun};
+ghost use Rattle.head_column.specs.Histories.{History, IsHistoryOf, has_reached, history_after, history_of, history_outcome, no_history};
+ghost use Rattle.head_column.specs.Items.{is_stale, outcome_of, outcomes_of, samples_of};
+ghost use Rattle.head_column.specs.Runs.{AreRunsOf};
+ghost use Rattle.head_column.specs.Tallies.{latest_after, latest_of, latest_outcome};
+ghost use Rattle.std.specs.Int.{w64};
+ghost use Rattle.head_column.specs.declared.items.Sample.{Sample as ASample};
+ghost use Rattle.head_column.specs.Hours.{hour_start, is_in_hour, HasTime, IsEdge};
+ghost use Rattle.head_column.specs.Chunks.{IsChunk, chunk_text};
+
+/// The history of a column is what its items make, item by item, and the items make no other. A stale sample is found by the
+/// accepted ones, though stale ones count as well.
+pub fn columns_follow_items()
+    ensures start { IsHistoryOf [] no_history }
+    ensures push { (items : List AnItem) (h : History) (i : AnItem) → IsHistoryOf items h → IsHistoryOf (items ++ i ∷ []) (history_after h i) }
+    ensures outcome { (items : List AnItem) (h : History) (i : AnItem) → IsHistoryOf items h → history_outcome h i ≡ outcome_of items i }
+    ensures stale { (items : List AnItem) (t : ℤ) → is_stale items t ≡ has_reached (samples_of items) t }
+    ensures made { (items : List AnItem) → IsHistoryOf items (history_of items) }
+    ensures one_history { (items : List AnItem) (h k : History) → IsHistoryOf items h → IsHistoryOf items k → h ≡ k }
+    ensures one_list { (test : ℤ → Bool) (qs rs : List ARun) → AreRunsOf test qs → AreRunsOf test rs → qs ≡ rs }
+{}
+
+/// The greatest accepted time alone tells the outcomes of any items, and so the same that a column tells.
+pub fn tallies_follow_items()
+    ensures start { latest_of [] ≡ None }
+    ensures push { (items : List AnItem) (i : AnItem) → latest_of (items ++ i ∷ []) ≡ latest_after (latest_of items) i }
+    ensures outcome { (items : List AnItem) (i : AnItem) → latest_outcome (latest_of items) i ≡ outcome_of items i }
+    ensures column { (items : List AnItem) → scan history_after history_outcome no_history items ≡ outcomes_of items }
+    ensures tally { (items : List AnItem) → scan latest_after latest_outcome None items ≡ outcomes_of items }
+{}
+
+/// A time is in one hour. Just the hours from -2562047788016 to 2562047788015 have a time that is an `i64`, and of these
+/// just the first and the last have one that is not. An hour that is no edge begins and ends at an `i64`.
+pub fn hours()
+    ensures one { (k l t : ℤ) → IsTrue (is_in_hour k t) → IsTrue (is_in_hour l t) → k ≡ l }
+    ensures between { (k : ℤ) → HasTime k ↔ (negsuc 2562047788015 ≤ℤ k) × (k ≤ℤ pos 2562047788015) }
+    ensures edges { (k : ℤ) → HasTime k → IsEdge k ↔ ((k ≡ negsuc 2562047788015) ⊎ (k ≡ pos 2562047788015)) }
+    ensures inside { (k : ℤ) → (IsEdge k → ⊥) → FitsSigned w64 (hour_start k) × FitsSigned w64 (hour_start (k +ℤ pos 1) -ℤ pos 1) }
+{}
+
+/// A text is that of one chunk at most.
+pub fn one_chunk()
+    ensures { (samples others : List ASample) → IsChunk samples → IsChunk others → chunk_text samples ≡ chunk_text others → samples ≡ others }
+{}

@@ -1,0 +1,29 @@
+//! What is kept of one series: its accepted samples, and the runs of its hidden times; hours of time, and chunks of samples.
+//!
+//! A `Column` is built item by item, samples and deletions in their order, and contracts say what any list of items makes of
+//! it. A `Tally` tells the same outcomes and keeps no sample.
+#![tactic(auto)]
+
+mod chunk;
+mod column;
+mod cutting;
+mod decoding;
+mod encoding;
+mod hour;
+mod items;
+mod laws;
+mod runs;
+mod tally;
+mod times;
+
+pub use chunk::{Chunk, ChunkFault};
+pub use column::Column;
+pub use decoding::decode_chunk;
+pub use encoding::encode_chunk;
+pub use hour::Hour;
+pub use items::{Item, Outcome, Run, Sample};
+pub use laws::{columns_follow_items, hours, one_chunk, tallies_follow_items};
+pub use tally::Tally;
+
+#[cfg(test)]
+mod tests;

@@ -1,0 +1,75 @@
+//! Runs of hidden times, merged in place.
+
+ghost use Rattle.std.specs.Prelude.{◌≡◌, ◌+◌, ◌<◌, ◌≤◌, ◌∷◌, ◌++◌, IsOk, OnErr, OnOk, drop, length, take, vec_len};
+ghost use Rattle.std.specs.Vec.{vec_capacity};
+ghost use Rattle.head_column.specs.Merging.{absorb, ends_before, span_of, with_run};
+ghost use Rattle.head_column.specs.Runs.{AreApart};
+
+use crate::Run;
+use std::alloc::AllocError;
+
+// Whether the first run ends, and a time lies between, before the second begins. No sum is made past the greatest time.
+fn ends_before(first: &Run, second: &Run) -> bool
+    ensures { result ≡ ends_before first.now second.now }
+{
+    first.max_time < second.min_time && first.max_time + 1 < second.min_time
+}
+
+// The least run that has both.
+fn span_of(first: &Run, second: &Run) -> Run
+    ensures { result ≡ span_of first.now second.now }
+{
+    Run {
+        min_time: first.min_time.min(second.min_time),
+        max_time: first.max_time.max(second.max_time),
+    }
+}
+
+// How many of the runs end before the run, found in a logarithm of steps.
+fn count_before(runs: &[Run], run: &Run) -> usize
+    requires { AreApart runs.now }
+    ensures within { result ≤ length runs.now }
+    ensures front { with_run runs.now run.now ≡ take result runs.now ++ absorb (drop result runs.now) run.now }
+{
+    runs.partition_point(
+        |other: &Run| -> bool
+            ensures { result ≡ ends_before other.now run.entry.now }
+        { ends_before(other, run) },
+    )
+}
+
+// Where the runs go on past those that the run touches, which stand from `first` on, and the run made of it and of these.
+fn absorbed(runs: &[Run], first: usize, run: &Run) -> (usize, Run)
+    requires { first ≤ length runs.now }
+    ensures from { first ≤ result.0 }
+    ensures within { result.0 ≤ length runs.now }
+    ensures rest { absorb (drop first runs.now) run.now ≡ result.1 ∷ drop result.0 runs.now }
+{
+    let mut whole = *run;
+    let mut last = first;
+    while last < runs.len() && !ends_before(&whole, &runs[last]) {
+        whole = span_of(&runs[last], &whole);
+        last += 1;
+    }
+    (last, whole)
+}
+
+/// Adds a run, merged with those that it touches. Memory is taken only where it touches none.
+pub(crate) fn merge(runs: &mut Vec<Run>, run: Run) -> Result<(), AllocError>
+    requires { AreApart runs.old.items }
+    ensures merged { OnOk result (runs.new.items ≡ with_run runs.old.items run) }
+    ensures kept { OnErr result (runs.new.items ≡ runs.old.items) }
+    ensures room { vec_len runs.old < vec_capacity runs.old → IsOk result }
+    ensures grows { vec_len runs.new ≤ vec_len runs.old + 1 }
+    ensures capacity { vec_capacity runs.old ≤ vec_capacity runs.new }
+{
+    let first = count_before(runs, &run);
+    let (last, whole) = absorbed(runs, first, &run);
+    if first == last {
+        runs.insert(first, whole)?;
+    } else {
+        runs[first] = whole;
+        runs.drain(first + 1..last);
+    }
+    Ok(())
+}

@@ -1,0 +1,6 @@
+pub mod Listed
+pub mod Unions
+pub mod Kept
+pub mod GivenLemmas
+pub mod Ascending
+pub mod PostingLemmas

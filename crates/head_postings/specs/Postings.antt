@@ -1,0 +1,75 @@
+-- The slots of each label.
+use Rattle.std.specs.Prelude.{◌≡◌, ℕ, Bool, true, List, [], ◌∷◌, map, filter, nat_eq, if◌then◌else◌}
+use Rattle.std.specs.List.{list_any}
+use Rattle.wal_record.specs.declared.labels.Label.{Label}
+use Rattle.wal_record.specs.Labels.{same_text, same_label}
+use Rattle.head_postings.specs.Slots.{AreOfBoth, IsAscending, IsUnion}
+
+-- any bytes
+abbrev pub Text : Type 0
+Text = List ℕ
+
+-- a label set
+abbrev pub Labels : Type 0
+Labels = List Label
+
+-- the label of a name and a value
+abbrev pub label : Text → Text → Label
+label name value = record { name = name; value = value }
+
+-- whether a label set has the label of this name and this value
+abbrev pub holds : Labels → Text → Text → Bool
+holds labels name value = list_any (same_label (label name value)) labels
+
+-- the list beside the first text that is equal to t; nothing where there is none
+abbrev pub listed : {A : Type 0} → List (Text × List A) → Text → List A
+listed [] t = []
+listed (e ∷ es) t = if same_text t e.0 then e.1 else listed es t
+
+-- the slots of a name and a value, where lists of slots stand beside values, and these beside names
+abbrev pub slots_of : List (Text × List (Text × List ℕ)) → Text → Text → List ℕ
+slots_of names name value = listed (listed names name) value
+
+-- What postings show: all slots, and what gives each label its slots (`selected`). The order of the texts says nothing, and a text with no slots is as good as none.
+pub record Lists : Type 0 where
+  pub all : List ℕ
+  pub names : List (Text × List (Text × List ℕ))
+
+-- the slots of the label of this name and this value
+abbrev pub selected : Lists → Text → Text → List ℕ
+selected p name value = slots_of p.names name value
+
+-- the slots of some slots with their label sets
+abbrev pub slots : List (ℕ × Labels) → List ℕ
+slots sets = map (λ s. s.0) sets
+
+-- those whose label set has the label
+abbrev pub with_label : Text → Text → List (ℕ × Labels) → List (ℕ × Labels)
+with_label name value sets = filter (λ s. holds s.1 name value) sets
+
+-- The postings of these slots with their label sets: all the slots, and for each label those whose label set has it, in the same order.
+pub record IsPostingsOf (sets : List (ℕ × Labels)) (p : Lists) : Type 0 where
+  pub every : p.all ≡ slots sets
+  pub each : (name value : Text) → selected p name value ≡ slots (with_label name value sets)
+
+-- two postings that no call tells apart
+pub record AreAlike (p q : Lists) : Type 0 where
+  pub every : q.all ≡ p.all
+  pub each : (name value : Text) → selected q name value ≡ selected p name value
+
+-- All lists ascend, the slots of a label are among all slots, and no slot has a label without a name.
+pub record IsSound (p : Lists) : Type 0 where
+  pub ascending : IsAscending p.all
+  pub each : (name value : Text) → IsAscending (selected p name value)
+  pub among : (name value : Text) (s : ℕ) → list_any (nat_eq s) (selected p name value) ≡ true → list_any (nat_eq s) p.all ≡ true
+  pub named : (value : Text) → selected p [] value ≡ []
+
+-- the union of two postings, in every list
+pub record AreMerged (p q r : Lists) : Type 0 where
+  pub every : IsUnion p.all q.all r.all
+  pub each : (name value : Text) → IsUnion (selected p name value) (selected q name value) (selected r name value)
+
+-- the slots of both, with their label sets, ascending
+pub record IsMergeOf (xs ys zs : List (ℕ × Labels)) : Type 0 where
+  pub ascending : IsAscending (slots zs)
+  pub of_both : AreOfBoth xs ys zs

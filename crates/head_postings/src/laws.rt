@@ -1,0 +1,15 @@
+//! Laws of the definitions.
+
+ghost use Rattle.std.specs.Prelude.{◌≡◌, ℕ, List};
+ghost use Rattle.head_postings.specs.Postings.{AreAlike, IsPostingsOf, Labels, Lists};
+ghost use Rattle.head_postings.specs.Slots.{IsUnion};
+
+/// Two lists have one union.
+pub fn one_union()
+    ensures { (xs ys us vs : List ℕ) → IsUnion xs ys us → IsUnion xs ys vs → us ≡ vs }
+{}
+
+/// Slots with their label sets have one set of postings.
+pub fn one_postings()
+    ensures { (sets : List (ℕ × Labels)) (p q : Lists) → IsPostingsOf sets p → IsPostingsOf sets q → AreAlike p q }
+{}
