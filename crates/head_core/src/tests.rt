@@ -344,6 +344,14 @@ const THREE_SERIES: [Line; 7] = [
     Line::Sample(3, 3_600_000, 30),
 ];
 
+// The first label of a series, lent.
+fn first_label(head: &Head, slot: Slot) -> Option<(&[u8], &[u8])> {
+    if head.is_failed() || head.series() <= slot.index() || head.pairs(slot) == 0 {
+        return None;
+    }
+    Some(head.pair(slot, 0))
+}
+
 #[test]
 fn three_series(rt: HostRuntime) -> Result<(), Fail> {
     let alloc = rt.alloc();
@@ -352,6 +360,8 @@ fn three_series(rt: HostRuntime) -> Result<(), Fail> {
     assert_eq!(rt; extent(&head, Slot::new(0)), Some((2, Some(3000))));
     assert_eq!(rt; extent(&head, Slot::new(1)), Some((1, Some(2000))));
     assert_eq!(rt; extent(&head, Slot::new(2)), Some((1, Some(3_600_000))));
+    let zone = (b"zone".as_slice(), b"c".as_slice());
+    assert!(rt; first_label(&head, Slot::new(2)) == Some(zone));
     if !head.is_failed() {
         assert_eq!(rt; head.counts().accepted, 4);
     }

@@ -109,6 +109,8 @@ fn references_bound_anew(rt: HostRuntime) -> Result<(), Fail> {
     let mut table = SeriesTable::new(alloc, 3);
     assert!(rt; bind_anew(alloc, &mut table)?);
     assert!(rt; is_bound_anew(alloc, &table)?);
+    let copy = table.copy()?;
+    assert!(rt; is_bound_anew(alloc, &copy)?);
     Ok(())
 }
 
