@@ -24,6 +24,3 @@ pub use hour::Hour;
 pub use items::{Item, Outcome, Run, Sample};
 pub use laws::{columns_follow_items, hours, one_chunk, tallies_follow_items};
 pub use tally::Tally;
-
-#[cfg(test)]
-mod tests;

@@ -14,6 +14,3 @@ pub use head::{Head, HeadFault};
 pub use head_column::{Chunk, Hour, Run, Sample};
 pub use head_series::Slot;
 pub use replay::{ReplayFault, Replayed, replay_serial};
-
-#[cfg(test)]
-mod tests;

@@ -12,6 +12,3 @@ mod values;
 
 pub use laws::{one_postings, one_union};
 pub use postings::Postings;
-
-#[cfg(test)]
-mod tests;

@@ -13,10 +13,20 @@ use wal_record::LabelSet;
 
 /// For each label, a name with a value, the ascending list of the slots whose label set has it, and the list of all slots.
 /// Contracts see `Lists`, of which they say what `all` is and what is `selected` at each name and value.
-#[derive(Debug, Drop)]
+#[derive(Debug)]
 pub struct Postings {
     names: Names,
     all: Vec<Slot>,
+}
+
+// Written out: where another function lets go of postings, its proof has one call, and not a copy of this.
+impl Drop for Postings {
+    fn drop(self) {
+        let Postings {
+            names: _names,
+            all: _all,
+        } = self;
+    }
 }
 
 impl Model for Postings {
@@ -63,8 +73,15 @@ impl Postings {
     {
         let alloc = *self.all.allocator();
         let all = united(alloc, &self.all, &other.all)?;
-        let mut names = self.names;
-        names.merge(other.names)?;
+        let Postings {
+            mut names,
+            all: _all,
+        } = self;
+        let Postings {
+            names: others,
+            all: _others,
+        } = other;
+        names.merge(others)?;
         Ok(Postings { names, all })
     }
 

@@ -18,6 +18,3 @@ pub use interner::{InternFault, Interner};
 pub use laws::{least_reference, slot_is_place};
 pub use slot::Slot;
 pub use table::{BindFault, Bound, SeriesTable};
-
-#[cfg(test)]
-mod tests;

@@ -63,7 +63,7 @@ pub struct Bound {
 
 /// Series, numbered by their slots in the order of first sight, and the references that name them. Each label text is kept
 /// once. Contracts see a `Table`: the series, the slot of each reference, the greatest reference, the texts and the limit.
-#[derive(Debug, Drop)]
+#[derive(Debug)]
 pub struct SeriesTable {
     texts: Interner,
     rows: Vec<Row>,
@@ -72,6 +72,21 @@ pub struct SeriesTable {
     slots: Owners,
     greatest: Option<u64>,
     most: u32,
+}
+
+// Written out: where another function lets go of a table, its proof has one call, and not a copy of this.
+impl Drop for SeriesTable {
+    fn drop(self) {
+        let SeriesTable {
+            texts: _texts,
+            rows: _rows,
+            lasts: _lasts,
+            hints: _hints,
+            slots: _slots,
+            greatest: _,
+            most: _,
+        } = self;
+    }
 }
 
 impl Model for SeriesTable {

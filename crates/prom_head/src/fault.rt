@@ -1,152 +1,64 @@
-//! How a run can end.
+//! How the program can fail apart from its commands.
 
 ghost use Rattle.std.specs.Prelude.{◌≡◌, ◌↔◌};
 ghost use Rattle.clap.specs.Values.{kind_of};
 ghost use Rattle.clap.specs.declared.error.kind.ErrorKind.TheVariants as kind;
-ghost use Rattle.wal_log.specs.declared.plan.PlanFault.TheVariants as plan;
-ghost use Rattle.wal_log.specs.declared.input.InputFault.TheVariants as input;
-ghost use Rattle.head_core.specs.declared.replay.ReplayFault.TheVariants as replay;
-ghost use Rattle.prom_head.specs.declared.fault.Fault.TheVariants.{OutOfMemory, TooLarge};
+ghost use Rattle.prom_head.specs.declared.fault.LineFault.TheVariants.{OutOfMemory};
 
-use crate::report::DamageLine;
-use crate::store::StoreFault;
 use clap::error::ErrorKind;
-use head_core::ReplayFault;
-use std::alloc::{AllocError, AllocFailed, Global};
-use std::process::ExitCode;
+use prom_commands::Status;
+use std::alloc::{AllocError, AllocFailed};
 use thiserror::Error;
-use wal_log::{InputFault, InputRefused, PlanFault};
 
-/// The program's exit status.
-#[derive(Clone, Copy, Debug, PartialEq, Eq)]
-pub enum Status {
-    Done = 0,
-    /// The log is damaged. What stands before the damage was printed.
-    Damaged = 1,
-    /// The arguments are wrong. Nothing was read.
-    Usage = 2,
-    /// Input or output failed, or what was asked cannot be done.
-    Refused = 3,
-    OutOfMemory = 4,
-}
-
-impl From<Status> for ExitCode {
-    fn from(status: Status) -> ExitCode {
-        ExitCode::from(status as u8)
-    }
-}
-
-/// Why a run failed. Its `Display` is what is said of it on standard error, after the program's name.
+/// Why no command was carried out, or its text not printed. Its `Display` is what is said of it on standard error, but for
+/// `Usage` after the program's name.
 #[derive(Debug, Drop, Error)]
-pub enum Fault {
-    /// The command line was refused. This text has several lines, and stands alone.
+pub enum LineFault {
+    /// The command line was refused, or help was asked for. This text has several lines, and stands alone.
     #[error(transparent)]
     Usage(clap::Error),
     #[error("the arguments must be UTF-8")]
     NotUtf8,
-    /// The option `--pair` is no label as it is printed.
-    #[error("pair must be NAME=VALUE")]
-    NoPair,
-    /// The log is damaged. What stands before the damage was printed.
-    #[error("{0}")]
-    Damage(DamageLine),
-    #[error("cannot read {path}")]
-    CannotRead { path: String },
     #[error("cannot write standard output")]
     CannotPrint,
-    /// A number is missing between two files of the log, or two files have one number.
-    #[error("gap in segment numbers")]
-    Gap,
-    /// All files of the log together have 2^64 bytes or more.
-    #[error("too large")]
-    TooLarge,
-    /// The log has more series, label texts or entries than a head may have.
-    #[error("too many series")]
-    Full,
     #[error("out of memory")]
     OutOfMemory,
 }
 
-impl Fault {
-    /// Why the file or directory at `path` was not read. `OutOfMemory` too where the path cannot be copied.
-    pub fn cannot_read(alloc: Global, path: &str, fault: StoreFault) -> Fault {
-        match (fault, String::from_str(alloc, path)) {
-            (StoreFault::Refused, Ok(path)) => Fault::CannotRead { path },
-            _ => Fault::OutOfMemory,
-        }
-    }
-
+impl LineFault {
+    /// The status that the program ends with.
     pub fn status(&self) -> Status {
         match self {
-            Fault::Usage(_) | Fault::NotUtf8 | Fault::NoPair => Status::Usage,
-            Fault::Damage(_) => Status::Damaged,
-            Fault::CannotRead { .. }
-            | Fault::CannotPrint
-            | Fault::Gap
-            | Fault::TooLarge
-            | Fault::Full => Status::Refused,
-            Fault::OutOfMemory => Status::OutOfMemory,
+            LineFault::Usage(_) | LineFault::NotUtf8 => Status::Usage,
+            LineFault::CannotPrint => Status::Refused,
+            LineFault::OutOfMemory => Status::OutOfMemory,
         }
     }
 }
 
-impl From<clap::Error> for Fault {
+impl From<clap::Error> for LineFault {
     ghost from_gives = { λ e f. (f ≡ OutOfMemory) ↔ (kind_of e ≡ kind.OutOfMemory) };
 
-    fn from(error: clap::Error) -> Fault {
+    fn from(error: clap::Error) -> LineFault {
         match error.kind() {
-            ErrorKind::OutOfMemory => Fault::OutOfMemory,
-            _ => Fault::Usage(error),
+            ErrorKind::OutOfMemory => LineFault::OutOfMemory,
+            _ => LineFault::Usage(error),
         }
     }
 }
 
-impl From<PlanFault> for Fault {
-    ghost from_gives = { λ e f. (f ≡ OutOfMemory) ↔ (e ≡ plan.Memory) };
-
-    fn from(fault: PlanFault) -> Fault {
-        match fault {
-            PlanFault::Gap => Fault::Gap,
-            PlanFault::Memory => Fault::OutOfMemory,
-        }
-    }
-}
-
-impl From<ReplayFault> for Fault {
-    ghost from_gives = { λ e f. (f ≡ OutOfMemory) ↔ (e ≡ replay.Memory) };
-
-    fn from(fault: ReplayFault) -> Fault {
-        match fault {
-            ReplayFault::Full => Fault::Full,
-            ReplayFault::Memory => Fault::OutOfMemory,
-        }
-    }
-}
-
-impl From<InputRefused> for Fault {
-    ghost from_gives = { λ e f. (f ≡ TooLarge) ↔ (e.fault ≡ input.TooLong) };
-
-    fn from(refused: InputRefused) -> Fault {
-        match refused.fault {
-            InputFault::TooLong => Fault::TooLarge,
-            // a plan has no segment at or below its checkpoint
-            InputFault::BelowCheckpoint | InputFault::Gap => Fault::Gap,
-        }
-    }
-}
-
-impl From<AllocError> for Fault {
+impl From<AllocError> for LineFault {
     ghost from_gives = { λ _ f. f ≡ OutOfMemory };
 
-    fn from(_error: AllocError) -> Fault {
-        Fault::OutOfMemory
+    fn from(_error: AllocError) -> LineFault {
+        LineFault::OutOfMemory
     }
 }
 
-impl<T: Drop> From<AllocFailed<T>> for Fault {
+impl<T: Drop> From<AllocFailed<T>> for LineFault {
     ghost from_gives = { λ _ f. f ≡ OutOfMemory };
 
-    fn from(_error: AllocFailed<T>) -> Fault {
-        Fault::OutOfMemory
+    fn from(_error: AllocFailed<T>) -> LineFault {
+        LineFault::OutOfMemory
     }
 }

@@ -1,50 +1,48 @@
 //! Reads the write-ahead log of a time series database and prints what it holds.
 #![tactic(auto)]
 
-mod directory;
-mod disk;
 mod fault;
 mod options;
 mod program;
-mod report;
-#[cfg(test)]
-mod shelf;
-mod spelling;
-mod store;
 #[cfg(test)]
 mod tests;
 
-use crate::disk::Disk;
-use crate::fault::{Fault, Status};
-use crate::program::{Outcome, run};
+use crate::fault::LineFault;
+use crate::program::run;
+use prom_commands::{Disk, Fault, Outcome, Status};
 use std::env;
 use std::io::ErrorKind;
 use std::process::ExitCode;
-use std::rt::Env;
+use std::rt::{Env, Files};
 
 // The words of the command line, the program's own name first.
-fn arguments<R: Env + AllocGlobal>(rt: &R) -> Result<Vec<String>, Fault> {
+fn arguments<R: Env + AllocGlobal>(rt: &R) -> Result<Vec<String>, LineFault> {
     match env::args(rt) {
         Ok(words) => Ok(words.collect(rt.alloc())?),
-        Err(error) if error.kind() == ErrorKind::OutOfMemory => Err(Fault::OutOfMemory),
-        Err(_) => Err(Fault::NotUtf8),
+        Err(error) if error.kind() == ErrorKind::OutOfMemory => Err(LineFault::OutOfMemory),
+        Err(_) => Err(LineFault::NotUtf8),
     }
 }
 
-// Says why a run failed. It allocates nothing, so that a want of memory is said too.
-fn complain(rt: &impl Eprint, fault: &Fault) {
+// Says why nothing was carried out or printed, and gives the status to end with. It allocates nothing, so that a want of
+// memory is said too.
+fn refuse(rt: &impl Eprint, fault: &LineFault) -> Status {
     let _ = match fault {
-        Fault::Usage(error) => rt.eprint(error),
+        LineFault::Usage(error) => rt.eprint(error),
         _ => eprintln!(rt; "prom_head: {fault}"),
     };
+    fault.status()
 }
 
-// Prints what a run left, and gives the status to end with.
+// Says why a command failed. It allocates nothing.
+fn complain(rt: &impl Eprint, fault: &Fault) {
+    let _ = eprintln!(rt; "prom_head: {fault}");
+}
+
+// Prints what a command left, and gives the status to end with.
 fn show<R: Print + Eprint>(rt: &R, outcome: &Outcome) -> Status {
     if rt.write_all(outcome.printed.as_bytes()).is_err() {
-        let fault = Fault::CannotPrint;
-        complain(rt, &fault);
-        return fault.status();
+        return refuse(rt, &LineFault::CannotPrint);
     }
     if let Some(fault) = &outcome.fault {
         complain(rt, fault);
@@ -52,10 +50,16 @@ fn show<R: Print + Eprint>(rt: &R, outcome: &Outcome) -> Status {
     outcome.status
 }
 
+// Runs the program on real files.
+fn run_here<R: Env + Files + AllocGlobal + Clone + Drop>(rt: &R) -> Result<Outcome, LineFault> {
+    let words = arguments(rt)?;
+    run(rt, &mut Disk::new(rt), &words)
+}
+
 fn main(rt: HostRuntime) -> ExitCode {
-    let outcome = match arguments(&rt) {
-        Ok(words) => run(&rt, &mut Disk::new(&rt), &words),
-        Err(fault) => Outcome::failed(rt.alloc(), fault),
+    let status = match run_here(&rt) {
+        Ok(outcome) => show(&rt, &outcome),
+        Err(fault) => refuse(&rt, &fault),
     };
-    show(&rt, &outcome).into()
+    status.into()
 }

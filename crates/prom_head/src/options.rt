@@ -2,18 +2,8 @@
 
 use clap::error::ErrorKind;
 use clap::{Arg, ArgMatches, Command, Error};
+use prom_commands::Request;
 use std::alloc::{AllocError, Global};
-
-/// What the command line asks for.
-#[derive(Clone, Copy, Debug, PartialEq, Eq)]
-pub enum Request<'a> {
-    /// To count what the log in a directory holds.
-    Replay { dir: &'a str },
-    /// To list the records of the log in a directory.
-    Records { dir: &'a str },
-    /// To list the series of the log in a directory, or those of them that have a label, spelled as it is printed.
-    Series { dir: &'a str, pair: Option<&'a str> },
-}
 
 // These take the lifetime of the words, though their own texts are static, since the borrow checker does not shorten a
 // lifetime inside a `Command`.
@@ -51,14 +41,22 @@ fn series<'a>(alloc: Global) -> Result<Command<'a>, AllocError> {
         .arg(pair(alloc))
 }
 
+// A command with one more below it. There is one place where a half-made command is let go, which is dear to prove.
+fn with<'a>(
+    command: Command<'a>,
+    below: Result<Command<'a>, AllocError>,
+) -> Result<Command<'a>, AllocError> {
+    command.subcommand(below?)
+}
+
 fn command<'a>(alloc: Global) -> Result<Command<'a>, AllocError> {
-    Command::new(alloc, "prom_head")
+    let command = Command::new(alloc, "prom_head")
         .about("Reads a write-ahead log of samples")
         .subcommand_required(true)
-        .disable_help_subcommand(true)
-        .subcommand(replay(alloc)?)?
-        .subcommand(records(alloc)?)?
-        .subcommand(series(alloc)?)
+        .disable_help_subcommand(true);
+    let command = with(command, replay(alloc))?;
+    let command = with(command, records(alloc))?;
+    with(command, series(alloc))
 }
 
 fn requested<'a>(matches: &ArgMatches<'a>) -> Option<Request<'a>> {
@@ -77,13 +75,24 @@ fn requested<'a>(matches: &ArgMatches<'a>) -> Option<Request<'a>> {
     }
 }
 
-/// Reads the command line, the program's own name first. A request for help is an `Err` too.
-pub fn parse<'a>(alloc: Global, words: &'a [String]) -> Result<Request<'a>, Error> {
-    let mut command = command(alloc)?;
+fn matched<'a>(
+    command: &mut Command<'a>,
+    words: &'a [String],
+) -> Result<Option<Request<'a>>, Error> {
     let matches = command.try_get_matches_from_mut(words)?;
-    match requested(&matches) {
+    Ok(requested(&matches))
+}
+
+fn asked<'a>(command: &mut Command<'a>, words: &'a [String]) -> Result<Request<'a>, Error> {
+    match matched(command, words)? {
         Some(request) => Ok(request),
         // Not reached: clap has seen to it that there is a subcommand and that it has its directory.
         None => Err(command.error(ErrorKind::MissingSubcommand, "a command is missing")?),
     }
+}
+
+/// Reads the command line, the program's own name first. A request for help is an `Err` too.
+pub fn parse<'a>(alloc: Global, words: &'a [String]) -> Result<Request<'a>, Error> {
+    let mut command = command(alloc)?;
+    asked(&mut command, words)
 }

@@ -1,0 +1,17 @@
+//! Tests of the program's commands, over a store in memory.
+#![tactic(auto)]
+
+#[cfg(test)]
+mod directories;
+#[cfg(test)]
+mod fragments;
+#[cfg(test)]
+mod listing;
+#[cfg(test)]
+mod replays;
+#[cfg(test)]
+mod runs;
+#[cfg(test)]
+mod shelf;
+#[cfg(test)]
+mod stores;

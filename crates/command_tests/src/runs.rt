@@ -1,0 +1,200 @@
+//! Runs of a command, held against what it is to leave.
+
+use crate::shelf::Shelf;
+use prom_commands::{Outcome, Request, StoreFault, carry_out};
+use std::alloc::{AllocError, Global};
+use std::fmt::Debug;
+use std::process::Abort;
+
+pub const REPLAY: Request<'static> = Request::Replay { dir: "log" };
+
+pub const RECORDS: Request<'static> = Request::Records { dir: "log" };
+
+/// A file's name and its bytes.
+pub type Named<'a> = (&'a str, &'a [u8]);
+
+/// Ends the test where what a case gives is not what it is to give.
+pub fn same<C: Debug + Drop, T: PartialEq + Debug + Drop>(
+    rt: &impl Abort,
+    case: C,
+    found: T,
+    wanted: T,
+) {
+    assert_eq!(rt; found, wanted, "at {case:?}");
+}
+
+const COUNT_NAMES: [&str; 12] = [
+    "series_records",
+    "sample_records",
+    "stone_records",
+    "skipped_records",
+    "series_entries",
+    "series",
+    "accepted",
+    "stale",
+    "unknown",
+    "hiding",
+    "empty_stones",
+    "unknown_stones",
+];
+
+// The count of this name, of counts as `series 1, accepted 2`.
+fn count_of<'a>(counts: &'a str, name: &str) -> &'a str {
+    for count in counts.split(", ") {
+        match count.split_once(' ') {
+            Some((found, number)) if found == name => return number,
+            _ => {}
+        }
+    }
+    "0"
+}
+
+// What `replay` prints for these counts, the others being 0, and this damage.
+fn replay_text(alloc: Global, counts: &str, damage: &str) -> Result<String, AllocError> {
+    let mut text = String::new(alloc);
+    for name in COUNT_NAMES {
+        let count = count_of(counts, name);
+        writeln!(text, "{name} {count}")?;
+    }
+    writeln!(text, "damage {damage}")?;
+    Ok(text)
+}
+
+// What is said of an outcome on standard error.
+fn complaint(alloc: Global, outcome: &Outcome) -> Result<String, AllocError> {
+    match &outcome.fault {
+        Some(fault) => fault.to_string(alloc),
+        None => Ok(String::new(alloc)),
+    }
+}
+
+/// A store with a directory `log` that has these files.
+pub fn shelf_with(alloc: Global, files: &[Named<'_>]) -> Result<Shelf, StoreFault> {
+    let mut shelf = Shelf::new(alloc)?;
+    put_all(alloc, &mut shelf, "log", files)?;
+    Ok(shelf)
+}
+
+/// Puts a directory there that has these files.
+pub fn put_all(
+    alloc: Global,
+    shelf: &mut Shelf,
+    dir: &str,
+    files: &[Named<'_>],
+) -> Result<(), StoreFault> {
+    shelf.put_dir(dir)?;
+    for (name, bytes) in files {
+        let path = format!(in alloc; "{dir}/{name}")?;
+        shelf.put(&path, bytes)?;
+    }
+    Ok(())
+}
+
+fn assert_outcome<R: Abort + AllocGlobal>(
+    rt: &R,
+    case: &str,
+    outcome: &Outcome,
+    want: (u8, &str, &str),
+) -> Result<(), AllocError> {
+    let said = complaint(rt.alloc(), outcome)?;
+    let found = (
+        outcome.status as u8,
+        outcome.printed.as_str(),
+        said.as_str(),
+    );
+    same(rt, case, found, want);
+    Ok(())
+}
+
+/// Carries out a request, which is to leave this status, print this and say this.
+pub fn assert_run<R: Abort + AllocGlobal>(
+    rt: &R,
+    case: &str,
+    shelf: &mut Shelf,
+    request: Request<'_>,
+    want: (u8, &str, &str),
+) -> Result<(), AllocError> {
+    let outcome = carry_out(rt.alloc(), shelf, request);
+    assert_outcome(rt, case, &outcome, want)
+}
+
+/// Carries out a request over the files of a directory.
+pub fn assert_files<R: Abort + AllocGlobal>(
+    rt: &R,
+    case: &str,
+    files: &[Named<'_>],
+    request: Request<'_>,
+    want: (u8, &str, &str),
+) -> Result<(), StoreFault> {
+    let mut shelf = shelf_with(rt.alloc(), files)?;
+    assert_run(rt, case, &mut shelf, request, want)?;
+    Ok(())
+}
+
+/// Replays the files of a directory, where it is to print these counts, as `series 1, accepted 2`.
+pub fn assert_counts<R: Abort + AllocGlobal>(
+    rt: &R,
+    case: &str,
+    files: &[Named<'_>],
+    counts: &str,
+) -> Result<(), StoreFault> {
+    let printed = replay_text(rt.alloc(), counts, "none")?;
+    assert_files(rt, case, files, REPLAY, (0, &printed, ""))
+}
+
+/// Replays a store, where it is to print these counts and this damage, or `none`.
+pub fn assert_replay_of<R: Abort + AllocGlobal>(
+    rt: &R,
+    case: &str,
+    shelf: &mut Shelf,
+    counts: &str,
+    damage: &str,
+) -> Result<(), AllocError> {
+    let status = if damage == "none" { 0 } else { 1 };
+    let printed = replay_text(rt.alloc(), counts, damage)?;
+    assert_run(rt, case, shelf, REPLAY, (status, &printed, ""))
+}
+
+/// Replays one segment, where it is to print these counts and this damage of it: `offset O kind N NAME`.
+pub fn assert_damage<R: Abort + AllocGlobal>(
+    rt: &R,
+    case: &str,
+    bytes: &[u8],
+    counts: &str,
+    damage: &str,
+) -> Result<(), StoreFault> {
+    let line = format!(in rt.alloc(); "segment 00000000 {damage}")?;
+    let printed = replay_text(rt.alloc(), counts, &line)?;
+    assert_files(rt, case, &[("00000000", bytes)], REPLAY, (1, &printed, ""))
+}
+
+/// These parts, one after another.
+pub fn joined(alloc: Global, parts: &[&[u8]]) -> Result<Vec<u8>, AllocError> {
+    let mut bytes = Vec::new(alloc);
+    for part in parts {
+        bytes.extend_from_slice(part)?;
+    }
+    Ok(bytes)
+}
+
+/// Replays one segment of these fragments.
+pub fn assert_replay<R: Abort + AllocGlobal>(
+    rt: &R,
+    fragments: &[&[u8]],
+    counts: &str,
+) -> Result<(), StoreFault> {
+    let segment = joined(rt.alloc(), fragments)?;
+    assert_counts(rt, "one segment", &[("00000000", &segment)], counts)
+}
+
+/// Replays one segment of these fragments, where it is to end in this damage.
+pub fn assert_damaged<R: Abort + AllocGlobal>(
+    rt: &R,
+    case: &str,
+    fragments: &[&[u8]],
+    counts: &str,
+    damage: &str,
+) -> Result<(), StoreFault> {
+    let segment = joined(rt.alloc(), fragments)?;
+    assert_damage(rt, case, &segment, counts, damage)
+}

@@ -1,0 +1,214 @@
+//! Each call of both stores.
+
+use crate::runs::same;
+use crate::shelf::Shelf;
+use prom_commands::{Disk, Store, StoreFault, read_whole};
+use std::alloc::Global;
+use std::io::{ErrorKind, Read, Write};
+use std::process::Abort;
+use std::test::Fail;
+use std::{env, fs, io, process};
+
+const REFUSED: Result<&str, StoreFault> = Err(StoreFault::Refused);
+
+const DONE: Result<&str, StoreFault> = Ok("");
+
+// A call of a store, its paths below a directory. A new file gets a text.
+#[derive(Clone, Copy, Debug)]
+enum Call {
+    ReadDir(&'static str),
+    Read(&'static str),
+    CreateNew(&'static str),
+    CreateDir(&'static str),
+    Rename(&'static str, &'static str),
+    RemoveFile(&'static str),
+}
+
+// The names in a directory, each behind a space.
+fn names<S: Store>(alloc: Global, store: &mut S, path: &str) -> Result<String, StoreFault> {
+    let mut text = String::new(alloc);
+    for name in store.read_dir(path)? {
+        write!(text, " {name}")?;
+    }
+    Ok(text)
+}
+
+// The bytes of a file, as letters.
+fn letters<S: Store>(alloc: Global, store: &mut S, path: &str) -> Result<String, StoreFault> {
+    let mut text = String::new(alloc);
+    for byte in store.read(path)? {
+        text.push(char::from(byte))?;
+    }
+    Ok(text)
+}
+
+fn create<S: Store>(store: &mut S, path: &str) -> Result<(), StoreFault> {
+    Ok(store.create_new(path)?.write_all(b"bytes")?)
+}
+
+fn below(alloc: Global, dir: &str, name: &str) -> Result<String, StoreFault> {
+    Ok(format!(in alloc; "{dir}{name}")?)
+}
+
+// Makes a call, and gives what it read.
+fn make<S: Store>(
+    alloc: Global,
+    store: &mut S,
+    dir: &str,
+    call: Call,
+) -> Result<String, StoreFault> {
+    match call {
+        Call::ReadDir(name) => return names(alloc, store, &below(alloc, dir, name)?),
+        Call::Read(name) => return letters(alloc, store, &below(alloc, dir, name)?),
+        Call::CreateNew(name) => create(store, &below(alloc, dir, name)?)?,
+        Call::CreateDir(name) => store.create_dir(&below(alloc, dir, name)?)?,
+        Call::RemoveFile(name) => store.remove_file(&below(alloc, dir, name)?)?,
+        Call::Rename(name, to) => {
+            let to = below(alloc, dir, to)?;
+            store.rename(&below(alloc, dir, name)?, &to)?;
+        }
+    }
+    Ok(String::new(alloc))
+}
+
+// Calls one after another, and what each gives.
+const CALLS: [(Call, Result<&str, StoreFault>); 17] = [
+    (Call::ReadDir(""), REFUSED),
+    (Call::CreateDir(""), DONE),
+    (Call::CreateNew("/1/a.tmp"), REFUSED),
+    (Call::CreateDir("/1"), DONE),
+    (Call::CreateDir("/1"), REFUSED),
+    (Call::CreateNew("/1/a.tmp"), DONE),
+    (Call::CreateNew("/1/a.tmp"), REFUSED),
+    (Call::Rename("/1/a.tmp", "/1/a"), DONE),
+    (Call::Rename("/1", "/2"), DONE),
+    (Call::Read("/1/a"), REFUSED),
+    (Call::Read("/2"), REFUSED),
+    (Call::Read("/2/a"), Ok("bytes")),
+    (Call::ReadDir("/2"), Ok(" a")),
+    (Call::RemoveFile("/2/a"), DONE),
+    (Call::RemoveFile("/2/a"), REFUSED),
+    (Call::ReadDir("/2"), DONE),
+    (Call::ReadDir(""), Ok(" 2")),
+];
+
+fn assert_calls<R: Abort + AllocGlobal, S: Store>(rt: &R, store: &mut S, dir: &str) {
+    for (call, wanted) in CALLS {
+        let found = make(rt.alloc(), store, dir, call);
+        let told = match &found {
+            Ok(text) => Ok(text.as_str()),
+            Err(fault) => Err(*fault),
+        };
+        same(rt, call, told, wanted);
+    }
+}
+
+#[test]
+fn store_in_memory(rt: HostRuntime) -> Result<(), StoreFault> {
+    let mut shelf = Shelf::new(rt.alloc())?;
+    assert_calls(&rt, &mut shelf, "new");
+    Ok(())
+}
+
+// A path that nothing else uses.
+fn own_path(rt: &HostRuntime) -> Result<String, Fail> {
+    let alloc = rt.alloc();
+    let id = process::id(rt.process());
+    let name = format!(in alloc; "prom_head.{id}")?;
+    Ok(env::temp_dir(rt)?.join(alloc, name)?.into_string())
+}
+
+#[test]
+fn store_of_real_files(rt: HostRuntime) -> Result<(), Fail> {
+    let dir = own_path(&rt)?;
+    // where a run was cut off and a later one got its number
+    let _ = fs::remove_dir_all(&rt, &dir);
+    assert_calls(&rt, &mut Disk::new(&rt), &dir);
+    fs::remove_dir_all(&rt, &dir)?;
+    Ok(())
+}
+
+// Writes three words, of which the second is the third call of the shelf, and fails. Gives what the file then holds.
+fn written(alloc: Global, shelf: &mut Shelf) -> Result<String, StoreFault> {
+    let mut writer = shelf.create_new("new")?;
+    shelf.fail(3, StoreFault::Refused)?;
+    writer.write_all(b"one ")?;
+    let _ = writer.write_all(b"two ");
+    writer.write_all(b"three")?;
+    letters(alloc, shelf, "new")
+}
+
+// A write counts as a call of the store in memory, and may be the one that fails.
+#[test]
+fn failing_write(rt: HostRuntime) -> Result<(), StoreFault> {
+    let mut shelf = Shelf::new(rt.alloc())?;
+    let text = written(rt.alloc(), &mut shelf)?;
+    same(&rt, "text", text.as_str(), "one three");
+    same(&rt, "calls", shelf.calls(), Ok(5));
+    Ok(())
+}
+
+// Gives its bytes one at a time, but for one read, which fails.
+#[derive(Drop)]
+struct Faulty {
+    rest: &'static [u8],
+    reads: u64,
+    fails_at: u64,
+    kind: ErrorKind,
+}
+
+impl Read for Faulty {
+    fn read(&mut self, buf: &mut [u8]) -> io::Result<usize> {
+        self.reads = self.reads.saturating_add(1);
+        if self.reads == self.fails_at {
+            return Err(io::Error::from(self.kind));
+        }
+        match (buf.first_mut(), self.rest.split_first()) {
+            (Some(place), Some((first, rest))) => {
+                *place = *first;
+                self.rest = rest;
+                Ok(1)
+            }
+            _ => Ok(0),
+        }
+    }
+}
+
+// The read to fail, how, and what becomes of reading the four bytes.
+const FAILING: [(u64, ErrorKind, Result<&[u8], StoreFault>); 6] = [
+    (0, ErrorKind::Other, Ok(b"abcd")),
+    (1, ErrorKind::Other, Err(StoreFault::Refused)),
+    (3, ErrorKind::Other, Err(StoreFault::Refused)),
+    (5, ErrorKind::Other, Err(StoreFault::Refused)),
+    (3, ErrorKind::OutOfMemory, Err(StoreFault::OutOfMemory)),
+    (3, ErrorKind::Interrupted, Ok(b"abcd")),
+];
+
+#[test]
+fn failing_read(rt: HostRuntime) {
+    for (fails_at, kind, wanted) in FAILING {
+        let mut reader = Faulty {
+            rest: b"abcd",
+            reads: 0,
+            fails_at,
+            kind,
+        };
+        let found = read_whole(rt.alloc(), &mut reader);
+        let told = match &found {
+            Ok(bytes) => Ok(bytes.as_slice()),
+            Err(fault) => Err(*fault),
+        };
+        same(&rt, fails_at, told, wanted);
+    }
+}
+
+// Read by more than one call, each of which fills the buffer but the last.
+#[test]
+fn long_read(rt: HostRuntime) -> Result<(), StoreFault> {
+    let bytes: Vec<u8> = (0..200_000u32)
+        .map(|i| (i % 251) as u8)
+        .collect(rt.alloc())?;
+    let read = read_whole(rt.alloc(), &mut bytes.as_slice())?;
+    assert!(rt; read.as_slice() == bytes.as_slice());
+    Ok(())
+}

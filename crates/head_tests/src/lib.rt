@@ -1,0 +1,66 @@
+//! Tests of the crates that keep a head, by their public calls.
+#![tactic(auto)]
+
+// A sample that is kept, and a run of hidden times.
+#[cfg(test)]
+macro_rules! kept {
+    ($time:expr, $value:expr) => {
+        Sample {
+            time: $time,
+            value: $value,
+        }
+    };
+}
+
+#[cfg(test)]
+macro_rules! run {
+    ($min_time:expr, $max_time:expr) => {
+        Run {
+            min_time: $min_time,
+            max_time: $max_time,
+        }
+    };
+}
+
+#[cfg(test)]
+mod chunks;
+#[cfg(test)]
+mod columns;
+#[cfg(test)]
+mod heads;
+#[cfg(test)]
+mod postings;
+#[cfg(test)]
+mod replays;
+#[cfg(test)]
+mod series;
+
+#[cfg(test)]
+use head_series::Slot;
+#[cfg(test)]
+use std::alloc::{AllocError, Global};
+#[cfg(test)]
+use std::fmt::Debug;
+#[cfg(test)]
+use std::process::Abort;
+
+// Ends the test where what a case gives is not what it is to give.
+#[cfg(test)]
+fn same<C: Debug + Drop, T: PartialEq + Debug + Drop>(
+    rt: &impl Abort,
+    case: C,
+    found: T,
+    wanted: T,
+) {
+    assert_eq!(rt; found, wanted, "at {case:?}");
+}
+
+// The numbers of slots.
+#[cfg(test)]
+fn indices(alloc: Global, slots: &[Slot]) -> Result<Vec<usize>, AllocError> {
+    let mut indices = Vec::with_capacity(alloc, slots.len())?;
+    for slot in slots {
+        indices.push(slot.index())?;
+    }
+    Ok(indices)
+}

@@ -1,0 +1,16 @@
+//! What each command of the program does, over any store: it reads the log in a directory and makes the text that is printed.
+#![tactic(auto)]
+
+mod commands;
+mod directory;
+mod disk;
+mod fault;
+mod report;
+mod spelling;
+mod store;
+
+pub use commands::{Outcome, Request, carry_out};
+pub use disk::{Disk, read_whole};
+pub use fault::{Fault, Status};
+pub use report::DamageLine;
+pub use store::{Store, StoreFault};
