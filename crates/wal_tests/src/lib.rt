@@ -6,6 +6,8 @@ mod bytes;
 #[cfg(test)]
 mod cases;
 #[cfg(test)]
+mod labels;
+#[cfg(test)]
 mod logs;
 #[cfg(test)]
 mod pages;
