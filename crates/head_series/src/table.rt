@@ -275,9 +275,9 @@ impl SeriesTable {
         Ok(SeriesTable {
             texts: self.texts.copy()?,
             rows: copied_rows(alloc, &self.rows)?,
-            lasts: copied(&self.lasts)?,
             hints: Vec::from_slice(alloc, &self.hints)?,
             slots: self.slots.copy()?,
+            lasts: copied(&self.lasts)?,
             greatest: self.greatest,
             most: self.most,
         })
