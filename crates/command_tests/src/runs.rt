@@ -1,7 +1,7 @@
 //! Runs of a command, held against what it is to leave.
 
 use crate::shelf::Shelf;
-use prom_commands::{Outcome, Request, StoreFault, carry_out};
+use prom_commands::{Answer, Request, StoreFault, carry_out};
 use std::alloc::{AllocError, Global};
 use std::fmt::Debug;
 use std::process::Abort;
@@ -60,9 +60,9 @@ fn replay_text(alloc: Global, counts: &str, damage: &str) -> Result<String, Allo
     Ok(text)
 }
 
-// What is said of an outcome on standard error.
-fn complaint(alloc: Global, outcome: &Outcome) -> Result<String, AllocError> {
-    match &outcome.fault {
+// What is said of an answer on standard error.
+fn complaint(alloc: Global, answer: &Answer) -> Result<String, AllocError> {
+    match &answer.fault {
         Some(fault) => fault.to_string(alloc),
         None => Ok(String::new(alloc)),
     }
@@ -90,18 +90,14 @@ pub fn put_all(
     Ok(())
 }
 
-fn assert_outcome<R: Abort + AllocGlobal>(
+fn assert_answer<R: Abort + AllocGlobal>(
     rt: &R,
     case: &str,
-    outcome: &Outcome,
+    answer: &Answer,
     want: (u8, &str, &str),
 ) -> Result<(), AllocError> {
-    let said = complaint(rt.alloc(), outcome)?;
-    let found = (
-        outcome.status as u8,
-        outcome.printed.as_str(),
-        said.as_str(),
-    );
+    let said = complaint(rt.alloc(), answer)?;
+    let found = (answer.status as u8, answer.printed.as_str(), said.as_str());
     same(rt, case, found, want);
     Ok(())
 }
@@ -114,8 +110,8 @@ pub fn assert_run<R: Abort + AllocGlobal>(
     request: Request<'_>,
     want: (u8, &str, &str),
 ) -> Result<(), AllocError> {
-    let outcome = carry_out(rt.alloc(), shelf, request);
-    assert_outcome(rt, case, &outcome, want)
+    let answer = carry_out(rt.alloc(), shelf, request);
+    assert_answer(rt, case, &answer, want)
 }
 
 /// Carries out a request over the files of a directory.

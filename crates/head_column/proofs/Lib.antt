@@ -10,3 +10,5 @@ pub mod ReadLaws
 pub mod SampleCodes
 pub mod Texts
 pub mod Windows
+pub mod Greatest
+pub mod Parts

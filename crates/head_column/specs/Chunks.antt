@@ -1,7 +1,7 @@
 -- Chunks: the text of some samples, and the chunks that samples are cut into.
-use Rattle.std.specs.Prelude.{ℕ, zero, suc, ◌<◌, ◌≤◌, ℤ, pos, ◌-ℤ◌, unsigned_abs, FitsSigned, List, [], ◌∷◌, ◌++◌, length, map, take, drop, Option, Some, None}
+use Rattle.std.specs.Prelude.{◌≡◌, ℕ, zero, suc, ◌<◌, ◌≤◌, ℤ, pos, ◌-ℤ◌, unsigned_abs, FitsSigned, List, [], ◌∷◌, ◌++◌, length, map, take, drop, Option, Some, None}
 use Rattle.std.specs.Int.{cast_unsigned, w64}
-use Rattle.std.specs.List.{All}
+use Rattle.std.specs.List.{All, flat_map}
 use Rattle.hw_bytes.specs.Writing.{big_bytes, uvarint, varint}
 use Rattle.head_column.specs.declared.items.Sample.{Sample}
 use Rattle.head_column.specs.declared.chunk.Chunk.{Chunk}
@@ -12,10 +12,14 @@ pub record IsFit (s : Sample) : Type 0 where
   pub time : FitsSigned w64 s.time
   pub value : FitsSigned w64 s.value
 
--- 1 to 120 samples, each past the one before it
+-- how many samples a chunk has, but for the last one of an hour, which may have fewer
+abbrev pub chunk_samples : ℕ
+chunk_samples = 120
+
+-- some samples, no more than a chunk has, each past the one before it
 pub record IsChunk (samples : List Sample) : Type 0 where
   pub some : 0 < length samples
-  pub few : length samples ≤ 120
+  pub few : length samples ≤ chunk_samples
   pub rises : Rises samples
   pub fit : All IsFit samples
 
@@ -40,15 +44,26 @@ samples_text before (s ∷ rest) = sample_text before s ++ samples_text (Some s.
 abbrev pub chunk_text : List Sample → List ℕ
 chunk_text samples = big_bytes 2 (length samples) ++ samples_text None samples
 
--- at most so many parts of n elements, the last one shorter
+-- at most so many parts of n elements, the last one perhaps shorter
 abbrev pub parts_in : {A : Type 0} → ℕ → ℕ → List A → List (List A)
 parts_in zero n xs = []
 parts_in (suc k) n [] = []
 parts_in (suc k) n (x ∷ xs) = take n (x ∷ xs) ∷ parts_in k n (drop n (x ∷ xs))
 
--- a list in parts of n elements, the last one shorter
+-- a list in parts of n elements, the last one perhaps shorter: the only list of parts that is `ArePartsOf`
 abbrev pub parts : {A : Type 0} → ℕ → List A → List (List A)
 parts n xs = parts_in (length xs) n xs
+
+-- each part but the last has n elements, and the last one has 1 to n
+abbrev pub AreFull : {A : Type 0} → ℕ → List (List A) → Type 0
+AreFull n [] = Unit {0}
+AreFull n (p ∷ []) = (0 < length p) × (length p ≤ n)
+AreFull n (p ∷ q ∷ more) = (length p ≡ n) × AreFull n (q ∷ more)
+
+-- the parts, joined again, are the list
+pub record ArePartsOf {A : Type 0} (n : ℕ) (xs : List A) (ps : List (List A)) : Type 0 where
+  pub joined : flat_map (λ p. p) ps ≡ xs
+  pub full : AreFull n ps
 
 abbrev pub first_time : List Sample → ℤ
 first_time [] = pos 0
@@ -62,6 +77,6 @@ last_time (s ∷ t ∷ rest) = last_time (t ∷ rest)
 abbrev pub chunk_of : List Sample → Chunk
 chunk_of samples = record { min_time = first_time samples; max_time = last_time samples; count = length samples; text = chunk_text samples }
 
--- The chunks of some samples: 120 samples each, the last one with fewer.
+-- The chunks of some samples: 120 samples each, the last one perhaps with fewer.
 abbrev pub chunks_of : List Sample → List Chunk
-chunks_of samples = map chunk_of (parts 120 samples)
+chunks_of samples = map chunk_of (parts chunk_samples samples)

@@ -1,10 +1,14 @@
 -- Hours of times in milliseconds.
-use Rattle.std.specs.Prelude.{ℤ, pos, ◌+ℤ◌, ◌*ℤ◌, ◌&&◌, Bool, IsTrue, FitsSigned, int_le, int_lt}
+use Rattle.std.specs.Prelude.{ℕ, ℤ, pos, ◌+ℤ◌, ◌*ℤ◌, ◌&&◌, Bool, IsTrue, FitsSigned, int_le, int_lt}
 use Rattle.std.specs.Int.{w64}
+
+-- the length of an hour in milliseconds
+abbrev pub hour_length : ℕ
+hour_length = 3600000
 
 -- the time at which hour k begins
 abbrev pub hour_start : ℤ → ℤ
-hour_start k = k *ℤ pos 3600000
+hour_start k = k *ℤ pos hour_length
 
 -- hour k is the times from its start up to, and without, the start of the next hour
 abbrev pub is_in_hour : ℤ → ℤ → Bool

@@ -5,6 +5,9 @@ use std::alloc::{AllocError, AllocFailed};
 use std::error::Error;
 use std::fmt;
 
+/// How many samples a chunk has, but for the last one of an hour, which may have fewer.
+pub const CHUNK_SAMPLES: usize = 120;
+
 /// A chunk: some samples in the order of their times, as a text.
 #[derive(Debug, Drop)]
 pub struct Chunk {

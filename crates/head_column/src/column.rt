@@ -2,6 +2,7 @@
 
 ghost use Rattle.std.specs.Prelude.{◌≡◌, ◌+◌, ◌<◌, ◌≤◌, ◌∷◌, ◌++◌, [], ℕ, List, IfOk, IsOk, OnErr, OnOk, filter, length};
 ghost use Rattle.head_column.specs.declared.items.Item.{Item as AnItem};
+ghost use Rattle.head_column.specs.declared.items.Outcome.TheVariants.{Stale, EmptyStone};
 ghost use Rattle.head_column.specs.Histories.{IsHistoryOf, history_after, history_outcome, latest, no_history};
 ghost use Rattle.head_column.specs.Items.{outcome_of};
 ghost use Rattle.head_column.specs.Runs.{AreApart};
@@ -125,6 +126,8 @@ impl Column {
         ensures changed { OnOk result (self.new.history ≡ history_after self.old.history item.now) }
         ensures told { IfOk result (λ told. told ≡ history_outcome self.old.history item.now) }
         ensures refused { OnErr result (self.new.history ≡ self.old.history) }
+        ensures stale { history_outcome self.old.history item.now ≡ Stale → IsOk result }
+        ensures empty { history_outcome self.old.history item.now ≡ EmptyStone → IsOk result }
         ensures room { 0 < self.old.spare → IsOk result }
         ensures spare { self.old.spare ≤ self.new.spare + 1 }
     {
@@ -162,8 +165,8 @@ impl Builder for Column {
 
     ghost outcome = { history_outcome };
 
-    /// Takes one item. A stale sample and an empty deletion change nothing. A deletion costs no more than the runs that there
-    /// are. Memory is refused only where `spare` was 0, and the history is then unchanged.
+    /// Takes one item. A stale sample and an empty deletion change nothing, and are never refused. A deletion costs no more than
+    /// the runs that there are. Memory is refused only where `spare` was 0, and the history is then unchanged.
     fn apply(&mut self, item: &Item) -> Result<Outcome, AllocError>
         ensures changed { OnOk result (self.new.history ≡ history_after self.old.history item.now) }
         ensures told { IfOk result (λ told. told ≡ history_outcome self.old.history item.now) }
@@ -173,6 +176,9 @@ impl Builder for Column {
         ensures items { (items : List AnItem) → IsHistoryOf items self.old.history → OnOk result (IsHistoryOf (items ++ item.now ∷ []) self.new.history) }
         ensures verdict { (items : List AnItem) → IsHistoryOf items self.old.history → IfOk result (λ told. told ≡ outcome_of items item.now) }
 
+        // A stale sample and an empty deletion ask for no memory, and others only where there is no room.
+        ensures stale { history_outcome self.old.history item.now ≡ Stale → IsOk result }
+        ensures empty { history_outcome self.old.history item.now ≡ EmptyStone → IsOk result }
         ensures room { 0 < self.old.spare → IsOk result }
         ensures spare { self.old.spare ≤ self.new.spare + 1 }
     {

@@ -4,17 +4,14 @@ ghost use Rattle.std.specs.Prelude.{◌≡◌, ◌<◌, ◌≤◌, true, false, 
 ghost use Rattle.std.specs.List.Sorted.{IsPartitionPoint};
 ghost use Rattle.head_column.specs.Samples.{Rises};
 ghost use Rattle.head_column.specs.Hours.{hour_start, is_in_hour};
-ghost use Rattle.head_column.specs.Chunks.{chunk_of as chunk_of_samples, chunks_of};
+ghost use Rattle.head_column.specs.Chunks.{chunk_of as chunk_of_samples, chunk_samples, chunks_of};
 
-use crate::chunk::Chunk;
+use crate::chunk::{CHUNK_SAMPLES, Chunk};
 use crate::encoding::encode_chunk;
 use crate::hour::Hour;
 use crate::items::Sample;
 use hw_bytes::Items;
 use std::alloc::{AllocError, Global};
-
-// How many samples a chunk has, but for the last one of an hour.
-const MOST: usize = 120;
 
 // Whether the sample is before hour k.
 fn is_before(sample: &Sample, k: i64) -> bool
@@ -51,7 +48,7 @@ fn time_of(sample: &Sample) -> i64
 
 fn chunk_of(alloc: Global, samples: &[Sample]) -> Result<Chunk, AllocError>
     requires some { 0 < length samples.now }
-    requires few { length samples.now ≤ 120 }
+    requires few { length samples.now ≤ chunk_samples }
     requires rises { Rises samples.now }
     ensures { IfOk result (λ chunk. chunk ≡ chunk_of_samples samples.now) }
 {
@@ -71,7 +68,7 @@ fn cut_all(alloc: Global, samples: &[Sample]) -> Result<Vec<Chunk>, AllocError>
     let mut chunks = Vec::new(alloc);
     let mut rest = samples;
     while !rest.is_empty() {
-        let (those, others) = rest.split_at(rest.len().min(MOST));
+        let (those, others) = rest.split_at(rest.len().min(CHUNK_SAMPLES));
         chunks.push(chunk_of(alloc, those)?)?;
         rest = others;
     }

@@ -1,12 +1,13 @@
 //! Samples out of the text of a chunk.
 
 ghost use Rattle.std.specs.Prelude.{◌≡◌, ◌≤◌, ◌<◌, List, length, Err, IfOk, IfSome, IfNone};
+ghost use Rattle.hw_bytes.specs.Writing.{big_number};
 ghost use Rattle.hw_bytes.specs.Spellings.{IsAt, IsNowhere};
 ghost use Rattle.head_column.specs.declared.items.Sample.{Sample as Entry};
-ghost use Rattle.head_column.specs.Chunks.{IsChunk, chunk_text};
+ghost use Rattle.head_column.specs.Chunks.{IsChunk, chunk_samples, chunk_text};
 ghost use Rattle.head_column.specs.Reading.{IsStep, IsTime, IsSample, HaveText, AreRead};
 
-use crate::chunk::ChunkFault;
+use crate::chunk::{CHUNK_SAMPLES, ChunkFault};
 use crate::encoding::encode_chunk;
 use crate::items::Sample;
 use hw_bytes::{be16_at, be64_at, uvarint_at, varint_at};
@@ -73,15 +74,20 @@ pub fn decode_chunk(alloc: Global, text: &[u8]) -> Result<Vec<Sample>, ChunkFaul
     ensures found { IfOk result (λ samples. IsChunk samples.items × (text.now ≡ chunk_text samples.items)) }
     ensures bad { result ≡ Err ChunkFault.BadChunk →
         (samples : List Entry) → IsChunk samples → text.now ≡ chunk_text samples → ⊥ }
+    // Whoever claims no samples, or more than a chunk has, is refused before memory is asked for.
+    ensures short { length text.now < 2 → result ≡ Err ChunkFault.BadChunk }
+    ensures none { big_number 2 text.now ≡ 0 → result ≡ Err ChunkFault.BadChunk }
+    ensures many { chunk_samples < big_number 2 text.now → result ≡ Err ChunkFault.BadChunk }
 {
     let Some(count) = be16_at(text) else {
         return Err(ChunkFault::BadChunk);
     };
-    if count == 0 || count > 120 {
+    let count = usize::from(count);
+    if count == 0 || count > CHUNK_SAMPLES {
         return Err(ChunkFault::BadChunk);
     }
     let (_, bytes) = text.split_at(2);
-    let samples = front_samples(alloc, usize::from(count), bytes)?;
+    let samples = front_samples(alloc, count, bytes)?;
     let again = encode_chunk(alloc, &samples)?;
     if again.as_slice() != text {
         return Err(ChunkFault::BadChunk);

@@ -2,7 +2,7 @@
 
 ghost use Rattle.std.specs.Prelude.{◌≡◌, ◌<◌, ◌≤◌, ◌++◌, length, IfOk, OnOk};
 ghost use Rattle.head_column.specs.Samples.{Rises};
-ghost use Rattle.head_column.specs.Chunks.{IsFit, time_text, sample_text, chunk_text};
+ghost use Rattle.head_column.specs.Chunks.{IsFit, chunk_samples, time_text, sample_text, chunk_text};
 
 use crate::items::Sample;
 use hw_bytes::{put_be16, put_be64, put_uvarint, put_varint};
@@ -32,7 +32,7 @@ fn put_sample(bytes: &mut Vec<u8>, before: Option<i64>, sample: &Sample) -> Resu
 /// values have eight bytes, big-endian, two's complement.
 pub fn encode_chunk(alloc: Global, samples: &[Sample]) -> Result<Vec<u8>, AllocError>
     requires some { 0 < length samples.now }
-    requires few { length samples.now ≤ 120 }
+    requires few { length samples.now ≤ chunk_samples }
     requires rises { Rises samples.now }
     ensures { IfOk result (λ text. text.items ≡ chunk_text samples.now) }
 {

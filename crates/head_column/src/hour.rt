@@ -5,14 +5,14 @@ ghost use Rattle.head_column.specs.Hours.{is_in_hour, HasTime, IsEdge};
 
 use std::marker::Model;
 
-// In milliseconds.
-const LENGTH: i64 = 3_600_000;
+// The length of an hour in milliseconds.
+const HOUR_LENGTH: i64 = 3_600_000;
 
 // The hours of the least and of the greatest time. The least time does not begin its hour, so it is in the one below what
 // rounding toward zero gives.
-const FIRST: i64 = i64::MIN / LENGTH - 1;
+const FIRST: i64 = i64::MIN / HOUR_LENGTH - 1;
 
-const LAST: i64 = i64::MAX / LENGTH;
+const LAST: i64 = i64::MAX / HOUR_LENGTH;
 
 /// An hour of times in milliseconds: hour k is the times from k * 3600000 up to, and without, (k + 1) * 3600000. At least
 /// one of its times is an `i64`. Contracts see it as the number k.
@@ -36,7 +36,7 @@ impl Hour {
     pub fn of(time: i64) -> Hour
         ensures { IsTrue (is_in_hour result time) }
     {
-        Hour(time.div_euclid(LENGTH))
+        Hour(time.div_euclid(HOUR_LENGTH))
     }
 
     /// Hour k; `None` where none of its times is an `i64`.

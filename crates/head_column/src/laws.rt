@@ -1,6 +1,6 @@
 //! What the definitions say of each other.
 
-ghost use Rattle.std.specs.Prelude.{◌≡◌, ◌↔◌, ◌⊎◌, ◌∷◌, ◌++◌, [], ℤ, pos, negsuc, ◌+ℤ◌, ◌-ℤ◌, ◌≤ℤ◌, Bool, IsTrue, FitsSigned, List, None};
+ghost use Rattle.std.specs.Prelude.{◌≡◌, ◌↔◌, ◌⊎◌, ◌∷◌, ◌++◌, [], ℤ, pos, negsuc, ◌+ℤ◌, ◌-ℤ◌, ◌≤ℤ◌, Bool, IsTrue, FitsSigned, List, Option, None};
 ghost use Rattle.std.specs.List.{scan};
 ghost use Rattle.head_column.specs.declared.items.Item.{Item as AnItem};
 ghost use Rattle.head_column.specs.declared.items.Run.{Run as ARun};
@@ -11,7 +11,9 @@ ghost use Rattle.head_column.specs.Tallies.{latest_after, latest_of, latest_outc
 ghost use Rattle.std.specs.Int.{w64};
 ghost use Rattle.head_column.specs.declared.items.Sample.{Sample as ASample};
 ghost use Rattle.head_column.specs.Hours.{hour_start, is_in_hour, HasTime, IsEdge};
-ghost use Rattle.head_column.specs.Chunks.{IsChunk, chunk_text};
+ghost use Rattle.head_column.specs.Chunks.{ArePartsOf, IsChunk, chunk_samples, chunk_text, parts};
+ghost use Rattle.head_column.specs.Times.{greatest};
+ghost use Rattle.hw_bytes.specs.Lists.{IsGreatest};
 
 /// The history of a column is what its items make, item by item, and the items make no other. A stale sample is found by the
 /// accepted ones, though stale ones count as well.
@@ -41,6 +43,19 @@ pub fn hours()
     ensures between { (k : ℤ) → HasTime k ↔ (negsuc 2562047788015 ≤ℤ k) × (k ≤ℤ pos 2562047788015) }
     ensures edges { (k : ℤ) → HasTime k → IsEdge k ↔ ((k ≡ negsuc 2562047788015) ⊎ (k ≡ pos 2562047788015)) }
     ensures inside { (k : ℤ) → (IsEdge k → ⊥) → FitsSigned w64 (hour_start k) × FitsSigned w64 (hour_start (k +ℤ pos 1) -ℤ pos 1) }
+{}
+
+/// The greatest time is one of the times, and none is past it; and there is just one such.
+pub fn greatest_time()
+    ensures is { (ts : List ℤ) → IsGreatest (λ t u. t ≤ℤ u) ts (greatest ts) }
+    ensures one { (ts : List ℤ) (g h : Option ℤ) → IsGreatest (λ t u. t ≤ℤ u) ts g → IsGreatest (λ t u. t ≤ℤ u) ts h → g ≡ h }
+{}
+
+/// The parts of a list are the list, each but the last as long as it may be; and there are just one such parts. So the chunks of an
+/// hour's samples are those samples, 120 a chunk.
+pub fn chunk_parts()
+    ensures are { (samples : List ASample) → ArePartsOf chunk_samples samples (parts chunk_samples samples) }
+    ensures one { (samples : List ASample) (ps qs : List (List ASample)) → ArePartsOf chunk_samples samples ps → ArePartsOf chunk_samples samples qs → ps ≡ qs }
 {}
 
 /// A text is that of one chunk at most.

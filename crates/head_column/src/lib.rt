@@ -16,11 +16,13 @@ mod runs;
 mod tally;
 mod times;
 
-pub use chunk::{Chunk, ChunkFault};
+pub use chunk::{CHUNK_SAMPLES, Chunk, ChunkFault};
 pub use column::Column;
 pub use decoding::decode_chunk;
 pub use encoding::encode_chunk;
 pub use hour::Hour;
 pub use items::{Item, Outcome, Run, Sample};
-pub use laws::{columns_follow_items, hours, one_chunk, tallies_follow_items};
+pub use laws::{
+    chunk_parts, columns_follow_items, greatest_time, hours, one_chunk, tallies_follow_items,
+};
 pub use tally::Tally;

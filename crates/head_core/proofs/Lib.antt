@@ -8,3 +8,4 @@ pub mod Limits
 pub mod Taking
 pub mod Binding
 pub mod Whole
+pub mod OneContent

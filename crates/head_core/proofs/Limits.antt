@@ -18,9 +18,9 @@ use Rattle.head_series.specs.Table.{Labels, Table, has_series, with_series, text
 use Rattle.head_series.specs.Bindings.{Binding, IsTableOf, series_of}
 use Rattle.head_core.specs.declared.counts.Counts.{Counts}
 use Rattle.head_core.specs.Owners.{binding, bindings}
-use Rattle.head_core.specs.Counts.{Fate, bound, accepted, stale, unknown, hides, empty_stone, unknown_stone, fate_at, fates, is_fate, is_series, is_samples, is_stones, is_skipped, counts_of}
+use Rattle.head_core.specs.Counts.{Fate, bound, accepted, stale, unknown, hides, empty_stone, unknown_stone, fate_at, fates, is_fate, is_series, is_samples, is_stones, is_skipped, counts_of, count_of_class}
 use Rattle.head_core.specs.Content.{Content, IsContentOf, AreCountsWithin, IsWithinLimits}
-use Rattle.head_core.specs.Steps.{ColumnLaw, told, with_record, count_of_fate, count_of_class, IsOverTable, IsOver, Takes}
+use Rattle.head_core.specs.Steps.{ColumnLaw, told, with_record, count_of_fate, IsOverTable, IsOver, Takes}
 use Rattle.head_core.proofs.Counting.{count_more, counts_at, counts_by, tally, entries_of-push, record_more}
 use Rattle.head_core.proofs.Known.{bindings-push, label_sets}
 use Rattle.head_core.proofs.Shown.{told_is}

@@ -1,17 +1,13 @@
 -- What is shown of some entries.
 use Rattle.std.proofs.Common.{◌≡◌, ℕ, ◌<◌, List, [], Some, None, Option, ap, sym, subst, ◌∙◌, refl, length, get_or}
 use Rattle.std.specs.Prelude.{slice_get}
-use Rattle.std.specs.List.{flat_map}
 use Rattle.std.specs.Option.{option_and_then}
 use Rattle.std.proofs.lemmas.Option.{slice_get-get_or}
-use Rattle.hw_bytes.specs.Lists.{distinct}
-use Rattle.wal_record.specs.Labels.{same_text}
 use Rattle.wal_record.specs.Entries.{Entry, series, sample, stone}
 use Rattle.head_column.specs.declared.items.Item.{Item}
 use Rattle.head_column.specs.Histories.{History, IsHistoryOf, no_history}
-use Rattle.head_series.specs.Texts.{texts_of}
-use Rattle.head_series.specs.Table.{Labels, Table, slot_at}
-use Rattle.head_series.specs.Bindings.{IsTableOf, series_of}
+use Rattle.head_series.specs.Table.{Labels, slot_at}
+use Rattle.head_series.specs.Bindings.{series_of}
 use Rattle.head_core.specs.Owners.{bindings, owner}
 use Rattle.head_core.specs.Counts.{sample_item, stone_item, items_of, fate_of, item_fate, fate_at}
 use Rattle.head_core.specs.Content.{Content, IsShownBy}
@@ -19,15 +15,6 @@ use Rattle.head_core.specs.Steps.{ColumnLaw, told_item, found, told}
 use Rattle.head_core.proofs.Lists.{AllZip-length, AllZip-at}
 
 -- no entries
-pub table_none : (t : Table) → t.series ≡ [] → ((r : ℕ) → slot_at t r ≡ None) → t.greatest ≡ None → t.texts ≡ [] → IsTableOf [] t
-table_none t none unbound least bare = record {
-  series = none;
-  owners = λ r. ap (option_and_then (slice_get t.series)) (unbound r);
-  within = λ r s h. let e = unbound r in cc;
-  greatest = least;
-  texts = bare ∙ ap (λ ss. distinct same_text (flat_map texts_of ss)) (sym none);
-}
-
 -- what stands in the slot of a reference: its owner, and that one's history
 pub record Stands (es : List Entry) (c : Content) (r p : ℕ) : Type 0 where
   pub labels : Labels

@@ -4,7 +4,7 @@ use Rattle.head_column.specs.Histories.{History, no_history}
 use Rattle.head_series.specs.Table.{Table}
 use Rattle.head_postings.specs.Slots.{AreBelow}
 use Rattle.head_postings.specs.Postings.{Lists}
-use Rattle.head_core.specs.Content.{Content}
+use Rattle.head_core.specs.Content.{Content, series_limit}
 
 -- the content of a head, and whether it has failed
 pub record HeadValue : Type 0 where
@@ -23,6 +23,6 @@ AreSlots c slots = All (λ s. s < length c.table.series) slots
 pub record IsWhole (table : Table) (columns : ℕ) (postings : Lists) : Type 0 where
   pub one_each : columns ≡ length table.series
   pub below : AreBelow (length table.series) postings.all
-  pub limit : table.most ≡ 4294967295
-  pub few : length table.series ≤ 4294967295
-  pub few_texts : length table.texts ≤ 4294967295
+  pub limit : table.most ≡ series_limit
+  pub few : length table.series ≤ series_limit
+  pub few_texts : length table.texts ≤ series_limit

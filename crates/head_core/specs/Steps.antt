@@ -15,7 +15,7 @@ use Rattle.head_postings.specs.Postings.{Lists, IsPostingsOf}
 use Rattle.head_core.specs.declared.counts.Counts.{Counts}
 use Rattle.head_core.specs.Owners.{binding}
 use Rattle.head_core.specs.Counts.{Fate, bound, accepted, stale, unknown, hides, empty_stone, unknown_stone, sample_item, stone_item, fate_of, unknown_fate}
-use Rattle.head_core.specs.Content.{Content}
+use Rattle.head_core.specs.Content.{Content, count_limit, series_limit}
 
 -- What the proofs here use of head_column's law: a column's history is what its items make.
 pub record ColumnLaw : Type 0 where
@@ -88,26 +88,19 @@ count_of_fate hides c = c.hiding
 count_of_fate empty_stone c = c.empty_stones
 count_of_fate unknown_stone c = c.unknown_stones
 
--- how many records of this record's class there were: the count that `with_record` raises
-abbrev pub count_of_class : WalRecord → Counts → ℕ
-count_of_class (Series es) c = c.series_records
-count_of_class (Samples ss) c = c.sample_records
-count_of_class (Stones ds) c = c.stone_records
-count_of_class (Other kind) c = c.skipped_records
-
 -- the table has no room for the series or the texts of the entry, if it is a series entry
 abbrev pub IsOverTable : Table → Entry → Type 0
 IsOverTable t (series e) = IsFull t e.labels
 IsOverTable t (sample s) = ⊥
 IsOverTable t (stone d) = ⊥
 
--- the count that an item would raise is the greatest of 64 bits
+-- the count that an item would raise is the greatest
 abbrev pub IsOverItem : Content → ℕ → Item → Type 0
-IsOverItem c r i = count_of_fate (told_item (found c.table c.histories r) i) c.counts ≡ 18446744073709551615
+IsOverItem c r i = count_of_fate (told_item (found c.table c.histories r) i) c.counts ≡ count_limit
 
--- What keeps an entry from being taken: the table has no room for it, or the count that it would raise is the greatest of 64 bits, which is 2 ^ 64 - 1.
+-- What keeps an entry from being taken: the table has no room for it, or the count that it would raise is the greatest.
 abbrev pub IsOver : Content → Entry → Type 0
-IsOver c e = IsOverTable c.table e ⊎ (count_of_fate (told c.table c.histories e) c.counts ≡ 18446744073709551615)
+IsOver c e = IsOverTable c.table e ⊎ (count_of_fate (told c.table c.histories e) c.counts ≡ count_limit)
 
 -- the table after an entry: whatever bindings it shows, with what the entry binds behind them
 abbrev pub IsTableAfter : Table → Entry → Table → Type 0
@@ -172,4 +165,4 @@ pub record IsOverIn (c : Content) (es : List Entry) : Type 0 where
   pub whole : es ≡ front ++ next ∷ rest
   pub taken : Takes c front middle
   pub over : IsOver middle next
-  pub limit : middle.table.most ≡ 4294967295
+  pub limit : middle.table.most ≡ series_limit

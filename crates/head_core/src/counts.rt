@@ -1,10 +1,11 @@
 //! How many records and entries there were of each kind.
 
-ghost use Rattle.std.specs.Prelude.{◌≡◌, ◌+◌, Err, OnErr, OnOk};
+ghost use Rattle.std.specs.Prelude.{◌≡◌, ◌+◌, ◌<◌, Err, IsOk, OnErr, OnOk};
+ghost use Rattle.head_core.specs.Content.{count_limit};
 ghost use Rattle.head_core.specs.Counts.{fate_of, unknown_fate};
 ghost use Rattle.head_core.specs.Steps.{count_of_fate, no_counts, with_fate};
 
-use crate::head::HeadFault;
+use crate::fault::HeadFault;
 use head_column::{Item, Outcome};
 
 /// The counts of a log, in the order in which they are printed. A deletion is a *stone*.
@@ -26,7 +27,9 @@ pub struct Counts {
 // One more, which is refused where there are 2^64 - 1.
 pub(crate) fn one_more(count: &mut u64) -> Result<(), HeadFault>
     ensures more { OnOk result (count.new ≡ count.old + 1) }
-    ensures full { OnErr result ((count.old ≡ 18446744073709551615) × (count.new ≡ count.old)) }
+    ensures full { OnErr result ((count.old ≡ count_limit) × (count.new ≡ count.old)) }
+    ensures limit { count.old ≡ count_limit → result ≡ Err HeadFault.Full }
+    ensures few { count.old < count_limit → IsOk result }
     ensures fault { result ≡ Err HeadFault.Memory → ⊥ }
     ensures sound { result ≡ Err HeadFault.Failed → ⊥ }
 {
@@ -62,7 +65,7 @@ impl Counts {
     // One more of what became of an item.
     pub(crate) fn add_outcome(&mut self, outcome: Outcome) -> Result<(), HeadFault>
         ensures more { OnOk result (self.new ≡ with_fate (fate_of outcome) self.old) }
-        ensures full { result ≡ Err HeadFault.Full → count_of_fate (fate_of outcome) self.old ≡ 18446744073709551615 }
+        ensures full { result ≡ Err HeadFault.Full → count_of_fate (fate_of outcome) self.old ≡ count_limit }
         ensures fault { result ≡ Err HeadFault.Memory → ⊥ }
         ensures sound { result ≡ Err HeadFault.Failed → ⊥ }
     {
@@ -77,7 +80,7 @@ impl Counts {
     // One more item whose reference has no owner.
     pub(crate) fn add_unknown(&mut self, item: &Item) -> Result<(), HeadFault>
         ensures more { OnOk result (self.new ≡ with_fate (unknown_fate item.now) self.old) }
-        ensures full { result ≡ Err HeadFault.Full → count_of_fate (unknown_fate item.now) self.old ≡ 18446744073709551615 }
+        ensures full { result ≡ Err HeadFault.Full → count_of_fate (unknown_fate item.now) self.old ≡ count_limit }
         ensures fault { result ≡ Err HeadFault.Memory → ⊥ }
         ensures sound { result ≡ Err HeadFault.Failed → ⊥ }
     {

@@ -6,11 +6,15 @@
 #![tactic(auto)]
 
 mod counts;
+mod fault;
 mod head;
+mod laws;
 mod replay;
 
 pub use counts::Counts;
-pub use head::{Head, HeadFault};
+pub use fault::HeadFault;
+pub use head::Head;
 pub use head_column::{Chunk, Hour, Run, Sample};
 pub use head_series::Slot;
+pub use laws::one_content;
 pub use replay::{ReplayFault, Replayed, replay_serial};

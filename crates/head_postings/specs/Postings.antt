@@ -1,21 +1,9 @@
 -- The slots of each label.
 use Rattle.std.specs.Prelude.{◌≡◌, ℕ, Bool, true, List, [], ◌∷◌, map, filter, nat_eq, if◌then◌else◌}
 use Rattle.std.specs.List.{list_any}
-use Rattle.wal_record.specs.declared.labels.Label.{Label}
+pub use Rattle.wal_record.specs.Labels.{Text, Labels, label}
 use Rattle.wal_record.specs.Labels.{same_text, same_label}
 use Rattle.head_postings.specs.Slots.{AreOfBoth, IsAscending, IsUnion}
-
--- any bytes
-abbrev pub Text : Type 0
-Text = List ℕ
-
--- a label set
-abbrev pub Labels : Type 0
-Labels = List Label
-
--- the label of a name and a value
-abbrev pub label : Text → Text → Label
-label name value = record { name = name; value = value }
 
 -- whether a label set has the label of this name and this value
 abbrev pub holds : Labels → Text → Text → Bool

@@ -94,6 +94,7 @@ impl Postings {
         ensures below { (n : ℕ) → AreBelow n self.now.all → AreBelow n result.now }
         ensures named { name.now ≡ [] → result.now ≡ [] }
     {
+        // for the proof, which knows the invariant where a field is named
         let _all = &self.all;
         self.names.find(name, value)
     }
@@ -108,7 +109,7 @@ impl Postings {
 
     /// The same, in memory of its own. What is added to either from then on, the other does not see.
     pub fn copy(&self) -> Result<Postings, AllocError>
-        ensures { IfOk result (λ copy. copy ≡ self.now) }
+        ensures { IfOk result (λ copy. AreAlike self.now copy) }
     {
         let alloc = *self.all.allocator();
         Ok(Postings {

@@ -131,3 +131,12 @@ slot_place bs t r h = at (slot_at t r) refl where
       let w = h.within r n f in
       place_at same_labels labels_same (labels_at t n) t.series n (series_distinct bs t h) (get_within t.series n w)
       ∙ ap (option_and_then (λ ls. place (same_labels ls) t.series)) (sym (owned bs t r n h w f))
+
+pub table_of_none : (t : Table) → t.series ≡ [] → ((r : ℕ) → slot_at t r ≡ None) → t.greatest ≡ None → t.texts ≡ [] → IsTableOf [] t
+table_of_none t none unbound least bare = record {
+  series = none;
+  owners = λ r. ap (option_and_then (slice_get t.series)) (unbound r);
+  within = λ r s h. let e = unbound r in cc;
+  greatest = least;
+  texts = bare ∙ ap (λ ss. distinct same_text (flat_map texts_of ss)) (sym none);
+}

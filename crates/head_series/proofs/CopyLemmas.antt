@@ -9,7 +9,7 @@ use Rattle.std.proofs.Math.Seq.{drop-cons}
 use Rattle.std.proofs.lemmas.List.{drop_all}
 use Rattle.wal_record.specs.declared.labels.Label.{Label}
 use Rattle.wal_record.specs.Labels.{IsLabelSet, IsNext, compare_labels}
-use Rattle.head_series.specs.Owners.{Owners, slot_of}
+use Rattle.head_series.specs.ReferenceSlots.{ReferenceSlotsValue, slot_of}
 use Rattle.head_series.specs.Rows.{IsLast, labels_hash, labels_in, or_zero}
 use Rattle.head_series.specs.Sound.{IsSound}
 use Rattle.head_series.specs.Texts.{Text, TextTable}
@@ -35,9 +35,9 @@ put_front es n left key v e h k =
     ∙ ap (lookup (nat_eq k)) (sym (drop_at es n (key, v) h))
 
 -- a table of the same fields
-pub IsSound-alike : (t u : TextTable) (most : ℕ) (nss mss : List (List (ℕ × ℕ))) (befores cefores : List ℕ) (lasts masts : List (ℕ × ℕ)) (hints ints : List ℕ) (o p : Owners) → IsSound t most nss befores lasts hints o
-    → u ≡ t → mss ≡ nss → cefores ≡ befores → ((h : ℕ) → lookup (nat_eq h) masts ≡ lookup (nat_eq h) lasts) → ints ≡ hints → ((r : ℕ) → slot_of p r ≡ slot_of o r) → IsSound u most mss cefores masts ints p
-IsSound-alike t u most nss mss befores cefores lasts masts hints ints o p s tu ns bs ls hs os =
+pub IsSound-alike : (t u : TextTable) (most : ℕ) (nss mss : List (List (ℕ × ℕ))) (befores cefores : List ℕ) (last_by_hash masts : List (ℕ × ℕ)) (lower_bounds ints : List ℕ) (o p : ReferenceSlotsValue) → IsSound t most nss befores last_by_hash lower_bounds o
+    → u ≡ t → mss ≡ nss → cefores ≡ befores → ((h : ℕ) → lookup (nat_eq h) masts ≡ lookup (nat_eq h) last_by_hash) → ints ≡ lower_bounds → ((r : ℕ) → slot_of p r ≡ slot_of o r) → IsSound u most mss cefores masts ints p
+IsSound-alike t u most nss mss befores cefores last_by_hash masts lower_bounds ints o p s tu ns bs ls hs os =
     subst (λ z. IsSound z most mss cefores masts ints p) (sym tu)
     (subst (λ z. IsSound t most z cefores masts ints p) (sym ns)
     (subst (λ z. IsSound t most nss z masts ints p) (sym bs)

@@ -1,8 +1,11 @@
 pub mod Places
 pub mod Distinct
 pub mod TextLemmas
-pub mod OwnerLemmas
+pub mod SlotLemmas
+pub mod Shown
 pub mod RowLemmas
 pub mod SoundLemmas
 pub mod BindLemmas
 pub mod CopyLemmas
+pub mod Greatest
+pub mod Created

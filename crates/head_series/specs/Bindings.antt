@@ -1,11 +1,11 @@
 -- What a list of bindings says, and the tables that show it.
-use Rattle.std.specs.Prelude.{◌≡◌, ℕ, ◌<◌, ◌==◌, List, Option, None, Some, map, length, slice_get, if◌then◌else◌}
-use Rattle.std.specs.List.{flat_map, fold}
+use Rattle.std.specs.Prelude.{◌≡◌, ℕ, ◌<◌, ◌==◌, List, Option, None, Some, map, length, nat_lt, slice_get, if◌then◌else◌}
+use Rattle.std.specs.List.{flat_map}
 use Rattle.std.specs.Option.{option_and_then}
-use Rattle.hw_bytes.specs.Lists.{distinct, last_found}
+use Rattle.hw_bytes.specs.Lists.{distinct, greatest_by, last_found}
 use Rattle.wal_record.specs.Labels.{same_text, same_labels}
 use Rattle.head_series.specs.Texts.{texts_of}
-use Rattle.head_series.specs.Table.{Labels, Table, slot_at, with_greatest}
+use Rattle.head_series.specs.Table.{Labels, Table, slot_at}
 
 -- a reference, and the label set that it is bound to
 pub record Binding : Type 0 where
@@ -26,7 +26,7 @@ series_of bs = distinct same_labels (map (λ b. b.labels) bs)
 
 -- the greatest reference that was ever bound
 abbrev pub greatest_of : List Binding → Option ℕ
-greatest_of bs = fold with_greatest None (map (λ b. b.reference) bs)
+greatest_of bs = greatest_by nat_lt (map (λ b. b.reference) bs)
 
 -- The table shows what the bindings say: the series; for each reference the slot of its owner; the greatest reference; and each text of the series once.
 pub record IsTableOf (bs : List Binding) (t : Table) : Type 0 where

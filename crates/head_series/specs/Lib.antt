@@ -1,5 +1,5 @@
 pub mod Texts
-pub mod Owners
+pub mod ReferenceSlots
 pub mod Rows
 pub mod Table
 pub mod Bindings

@@ -4,11 +4,8 @@ use Rattle.std.specs.Hash as fed
 use Rattle.std.specs.Hash.FoldHasher as folds
 use Rattle.std.specs.List.{list_any, flat_map, fold}
 use Rattle.wal_record.specs.declared.labels.Label.{Label}
+pub use Rattle.wal_record.specs.Labels.{label}
 use Rattle.head_series.specs.Texts.{Text, with_texts, texts_of}
-
--- a label of two texts
-abbrev pub label : Text → Text → Label
-label name value = record { name = name; value = value }
 
 -- the label of two numbers
 abbrev pub named : List Text → ℕ × ℕ → Label
@@ -60,7 +57,7 @@ abbrev pub or_zero : Option ℕ → ℕ
 or_zero None = 0
 or_zero (Some n) = n
 
--- the hint of a slot is no greater than any reference that has the slot
-pub record IsBelow (series : ℕ) (slots : ℕ → Option ℕ) (hints : List ℕ) : Type 0 where
+-- the lower_bound of a slot is no greater than any reference that has the slot
+pub record IsBelow (series : ℕ) (slots : ℕ → Option ℕ) (lower_bounds : List ℕ) : Type 0 where
   pub within : (r s : ℕ) → slots r ≡ Some s → s < series
-  pub below : (r s : ℕ) → slots r ≡ Some s → slice_index hints s ≤ r
+  pub below : (r s : ℕ) → slots r ≡ Some s → slice_index lower_bounds s ≤ r

@@ -1,26 +1,23 @@
 -- Series in the order of first sight, and the slots of references.
-use Rattle.std.specs.Prelude.{◌≡◌, ℕ, ◌+◌, ◌<◌, ◌≤◌, ◌==◌, ◌⊎◌, Bool, false, List, [], ◌∷◌, ◌++◌, length, nat_lt, if◌then◌else◌, Option, Some, None, slice_index_or}
+use Rattle.std.specs.Prelude.{◌≡◌, ℕ, ◌+◌, ◌<◌, ◌≤◌, ◌==◌, ◌⊎◌, Bool, false, List, [], ◌∷◌, ◌++◌, length, nat_eq, nat_lt, if◌then◌else◌, Option, Some, None, slice_index_or}
 use Rattle.std.specs.List.{list_any}
-use Rattle.wal_record.specs.declared.labels.Label.{Label}
+use Rattle.std.specs.Map.{lookup}
+pub use Rattle.wal_record.specs.Labels.{Labels}
 use Rattle.wal_record.specs.Labels.{same_labels}
-use Rattle.head_series.specs.Owners.{Owners, slot_of}
+use Rattle.hw_bytes.specs.Lists.{greater_by}
 use Rattle.head_series.specs.Texts.{Text, with_texts, texts_of}
 
--- a label set
-abbrev pub Labels : Type 0
-Labels = List Label
-
--- What a table shows: the series by slot; what gives each reference its slot, if it has one (`slot_at`); the greatest reference that was ever bound; the distinct texts of the series; and how many series, and how many texts, there may be.
+-- What a table shows: the series by slot; the references that have a slot, each beside it, in no particular order (`slot_at`); the greatest reference that was ever bound; the distinct texts of the series; and how many series, and how many texts, there may be.
 pub record Table : Type 0 where
   pub series : List Labels
-  pub slots : Owners
+  pub slots : List (ℕ × ℕ)
   pub greatest : Option ℕ
   pub texts : List Text
   pub most : ℕ
 
 -- the slot of a reference
 abbrev pub slot_at : Table → ℕ → Option ℕ
-slot_at t r = slot_of t.slots r
+slot_at t r = lookup (nat_eq r) t.slots
 
 -- the label set of a slot
 abbrev pub labels_at : Table → ℕ → Labels
@@ -48,8 +45,7 @@ IsWith old q s new = (r : ℕ) → new r ≡ (if q == r then Some s else old r)
 
 -- the greatest of these and r
 abbrev pub with_greatest : Option ℕ → ℕ → Option ℕ
-with_greatest None r = Some r
-with_greatest (Some g) r = if nat_lt g r then Some r else Some g
+with_greatest = greater_by nat_lt
 
 -- one more than the greatest; 1 if there is none, and none if that was 2 ^ 64 - 1
 abbrev pub after : Option ℕ → Option ℕ

@@ -3,11 +3,8 @@ use Rattle.std.specs.Prelude.{ℕ, ◌+◌, Bool, List, [], ◌∷◌, ◌++◌,
 use Rattle.std.specs.Option.{option_map}
 use Rattle.std.specs.List.{list_any}
 use Rattle.wal_record.specs.declared.labels.Label.{Label}
+pub use Rattle.wal_record.specs.Labels.{Text}
 use Rattle.wal_record.specs.Labels.{same_text}
-
--- any bytes
-abbrev pub Text : Type 0
-Text = List ℕ
 
 -- the text is among the texts
 abbrev pub has_text : List Text → Text → Bool

@@ -102,6 +102,7 @@ impl Interner {
         ensures count { result ≡ length self.now.texts }
         ensures few { result ≤ self.now.most }
     {
+        // for the proof, which knows the invariant where a field is named
         let _most = self.most;
         self.texts.len()
     }
@@ -110,6 +111,7 @@ impl Interner {
     fn find(&self, text: &[u8]) -> Option<u32>
         ensures { result ≡ place (same_text text.now) self.now.texts }
     {
+        // for the proof, which knows the invariant where a field is named
         let _most = self.most;
         match self.texts.get_index_of(text) {
             Some(index) => Some(index as u32),
@@ -125,6 +127,9 @@ impl Interner {
         ensures within { IfOk result (λ n. n < length self.new.texts) }
         ensures full { (result ≡ Err InternFault.Full) → (has_text self.old.texts text.now ≡ false) × (length self.old.texts ≡ self.old.most) }
         ensures room { IsOk result → (has_text self.old.texts text.now ≡ true) ⊎ (length self.old.texts < self.old.most) }
+        // Where nothing grows no memory is asked for.
+        ensures known { has_text self.old.texts text.now ≡ true → IsOk result }
+        ensures limit { has_text self.old.texts text.now ≡ false → length self.old.texts ≡ self.old.most → result ≡ Err InternFault.Full }
         ensures kept { OnErr result (self.new.texts ≡ self.old.texts) }
         ensures most { self.new.most ≡ self.old.most }
     {
@@ -154,6 +159,7 @@ impl Interner {
         ensures texts { self.new.texts ≡ take many self.old.texts }
         ensures most { self.new.most ≡ self.old.most }
     {
+        // for the proof, which knows the invariant where a field is named
         let _most = self.most;
         self.texts.truncate(many);
     }
@@ -202,6 +208,7 @@ impl Interner {
             };
             numbers.push((first, second))?;
         }
+        // for the proof, which knows the invariant where a field is named
         let _texts = &self.texts;
         Ok(numbers)
     }

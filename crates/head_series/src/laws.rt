@@ -1,11 +1,18 @@
 //! Laws of the definitions.
 
-ghost use Rattle.std.specs.Prelude.{◌≡◌, ◌<◌, ℕ, List, Option, Some, length};
+ghost use Rattle.std.specs.Prelude.{◌≡◌, ◌<◌, ◌≤◌, ℕ, List, Option, Some, length, map};
 ghost use Rattle.std.specs.Option.{option_and_then};
 ghost use Rattle.wal_record.specs.Labels.{same_labels};
-ghost use Rattle.head_series.specs.Bindings.{Binding, owner, IsTableOf};
+ghost use Rattle.hw_bytes.specs.Lists.{IsGreatest};
+ghost use Rattle.head_series.specs.Bindings.{Binding, greatest_of, owner, IsTableOf};
 ghost use Rattle.head_series.specs.Table.{Table, labels_at, slot_at, IsLeast};
 ghost use Rattle.head_series.specs.Texts.{place};
+
+/// The greatest reference of some bindings is one of theirs, and none is past it; and there is just one such.
+pub fn greatest_reference()
+    ensures is { (bs : List Binding) → IsGreatest (λ q r. q ≤ r) (map (λ b. b.reference) bs) (greatest_of bs) }
+    ensures one { (rs : List ℕ) (g h : Option ℕ) → IsGreatest (λ q r. q ≤ r) rs g → IsGreatest (λ q r. q ≤ r) rs h → g ≡ h }
+{}
 
 /// In a table of bindings the slot of a reference is the place of its owner among the series, and a reference without an
 /// owner has none.

@@ -9,12 +9,12 @@ mod hashing;
 mod interner;
 mod laws;
 mod maps;
-mod owners;
+mod reference_slots;
 mod rows;
 mod slot;
 mod table;
 
 pub use interner::{InternFault, Interner};
-pub use laws::{least_reference, slot_is_place};
+pub use laws::{greatest_reference, least_reference, slot_is_place};
 pub use slot::Slot;
 pub use table::{BindFault, Bound, SeriesTable};

@@ -15,7 +15,7 @@ use wal_record::LabelSet;
 #[derive(Debug, Drop)]
 pub(crate) struct Row {
     pub(crate) numbers: Vec<(u32, u32)>,
-    pub(crate) before: u32,
+    pub(crate) previous: u32,
 }
 
 // Whether these numbers are those of the label set.
@@ -40,34 +40,34 @@ pub(crate) fn is_named(texts: &Interner, numbers: &[(u32, u32)], labels: &LabelS
 }
 
 // One more than the slot of the last series whose label set has the hash, or 0.
-pub(crate) fn last_with(lasts: &IndexMap<u64, u32>, hash: u64) -> u32
-    ensures { result ≡ or_zero (lookup (nat_eq hash) lasts.now.entries) }
+pub(crate) fn last_with(last_by_hash: &IndexMap<u64, u32>, hash: u64) -> u32
+    ensures { result ≡ or_zero (lookup (nat_eq hash) last_by_hash.now.entries) }
 {
-    match lasts.get(&hash) {
+    match last_by_hash.get(&hash) {
         Some(last) => *last,
         None => 0,
     }
 }
 
 // Notes one more than the slot of the last series with the hash.
-pub(crate) fn note_last(lasts: &mut IndexMap<u64, u32>, hash: u64, last: u32)
-    requires { 0 < spare lasts.old }
-    ensures { (h : ℕ) → or_zero (lookup (nat_eq h) lasts.new.entries) ≡ (if hash == h then last else or_zero (lookup (nat_eq h) lasts.old.entries)) }
+pub(crate) fn note_last(last_by_hash: &mut IndexMap<u64, u32>, hash: u64, last: u32)
+    requires { 0 < spare last_by_hash.old }
+    ensures { (h : ℕ) → or_zero (lookup (nat_eq h) last_by_hash.new.entries) ≡ (if hash == h then last else or_zero (lookup (nat_eq h) last_by_hash.old.entries)) }
 {
-    lasts.insert(hash, last).unwrap();
+    last_by_hash.insert(hash, last).unwrap();
 }
 
 // The same rows, in memory of their own.
 pub(crate) fn copied_rows(alloc: Global, rows: &[Row]) -> Result<Vec<Row>, AllocError>
     ensures numbers { IfOk result (λ copy. map (λ r. r.numbers.items) copy.items ≡ map (λ r. r.numbers.items) rows.now) }
-    ensures befores { IfOk result (λ copy. map (λ r. r.before) copy.items ≡ map (λ r. r.before) rows.now) }
+    ensures befores { IfOk result (λ copy. map (λ r. r.previous) copy.items ≡ map (λ r. r.previous) rows.now) }
 {
     let mut copy = Vec::with_capacity(alloc, rows.len())?;
     for row in rows {
         let numbers = Vec::from_slice(alloc, &row.numbers)?;
         copy.push(Row {
             numbers,
-            before: row.before,
+            previous: row.previous,
         })?;
     }
     Ok(copy)

@@ -10,7 +10,7 @@ use crate::comparing::compare_numbers;
 use crate::hashing::hash_of;
 use crate::interner::{InternFault, Interner};
 use crate::maps::copied;
-use crate::owners::Owners;
+use crate::reference_slots::ReferenceSlots;
 use crate::rows::{Row, copied_rows, is_named, last_with, note_last};
 use crate::slot::Slot;
 use indexmap::IndexMap;
@@ -67,9 +67,9 @@ pub struct Bound {
 pub struct SeriesTable {
     texts: Interner,
     rows: Vec<Row>,
-    lasts: IndexMap<u64, u32>,
-    hints: Vec<u64>,
-    slots: Owners,
+    last_by_hash: IndexMap<u64, u32>,
+    lower_bounds: Vec<u64>,
+    slots: ReferenceSlots,
     greatest: Option<u64>,
     most: u32,
 }
@@ -80,8 +80,8 @@ impl Drop for SeriesTable {
         let SeriesTable {
             texts: _texts,
             rows: _rows,
-            lasts: _lasts,
-            hints: _hints,
+            last_by_hash: _last_by_hash,
+            lower_bounds: _lower_bounds,
             slots: _slots,
             greatest: _,
             most: _,
@@ -91,15 +91,16 @@ impl Drop for SeriesTable {
 
 impl Model for SeriesTable {
     ghost use Rattle.std.specs.Prelude.{map};
+    ghost use Rattle.head_series.specs.ReferenceSlots.{pairs_of};
     ghost use Rattle.head_series.specs.Rows.{labels_in};
     ghost use Rattle.head_series.specs.Sound.{IsSound};
     ghost use Rattle.head_series.specs.Table.{Table};
 
     ghost Value = { Table };
 
-    ghost view = { λ t. record { series = map (labels_in t.texts.texts) (map (λ r. r.numbers.items) t.rows.items); slots = t.slots; greatest = t.greatest; texts = t.texts.texts; most = t.most } };
+    ghost view = { λ t. record { series = map (labels_in t.texts.texts) (map (λ r. r.numbers.items) t.rows.items); slots = pairs_of t.slots; greatest = t.greatest; texts = t.texts.texts; most = t.most } };
 
-    ghost invariant = { λ t. IsSound t.texts t.most (map (λ r. r.numbers.items) t.rows.items) (map (λ r. r.before) t.rows.items) t.lasts.entries t.hints.items t.slots };
+    ghost invariant = { λ t. IsSound t.texts t.most (map (λ r. r.numbers.items) t.rows.items) (map (λ r. r.previous) t.rows.items) t.last_by_hash.entries t.lower_bounds.items t.slots };
 }
 
 // The greatest of these and the reference.
@@ -139,9 +140,9 @@ impl SeriesTable {
         SeriesTable {
             texts: Interner::new(alloc, most),
             rows: Vec::new(alloc),
-            lasts: IndexMap::new(alloc),
-            hints: Vec::new(alloc),
-            slots: Owners::new(alloc),
+            last_by_hash: IndexMap::new(alloc),
+            lower_bounds: Vec::new(alloc),
+            slots: ReferenceSlots::new(alloc),
             greatest: None,
             most,
         }
@@ -153,6 +154,7 @@ impl SeriesTable {
         ensures few { result ≤ self.now.most }
         ensures fits { result < 2 ^ 32 }
     {
+        // for the proof, which knows the invariant where a field is named
         let _most = self.most;
         self.rows.len()
     }
@@ -173,14 +175,14 @@ impl SeriesTable {
         ensures slot { result ≡ place (same_labels labels.now) self.now.series }
         ensures within { IfSome result (λ slot. slot < length self.now.series) }
     {
-        let mut next = last_with(&self.lasts, hash_of(labels));
+        let mut next = last_with(&self.last_by_hash, hash_of(labels));
         while next != 0 {
             let slot = next - 1;
             let row = &self.rows[slot as usize];
             if is_named(&self.texts, &row.numbers, labels) {
                 return Some(Slot::new(slot));
             }
-            next = row.before;
+            next = row.previous;
         }
         None
     }
@@ -239,16 +241,16 @@ impl SeriesTable {
         ensures { IsLeast (λ r. slot_at self.now r ≡ Some slot) result }
     {
         let number = slot.number();
-        let hint = self.hints[slot.index()];
-        match self.slots.find(hint) {
+        let lower_bound = self.lower_bounds[slot.index()];
+        match self.slots.find(lower_bound) {
             Some(found) => {
                 if found == number {
-                    return Some(hint);
+                    return Some(lower_bound);
                 }
             }
             None => {}
         }
-        self.slots.least(number, hint)
+        self.slots.least(number, lower_bound)
     }
 
     /// One more than the greatest reference that was ever bound, and 1 if none was. `None` if that was 2^64 - 1.
@@ -275,9 +277,9 @@ impl SeriesTable {
         Ok(SeriesTable {
             texts: self.texts.copy()?,
             rows: copied_rows(alloc, &self.rows)?,
-            hints: Vec::from_slice(alloc, &self.hints)?,
+            lower_bounds: Vec::from_slice(alloc, &self.lower_bounds)?,
             slots: self.slots.copy()?,
-            lasts: copied(&self.lasts)?,
+            last_by_hash: copied(&self.last_by_hash)?,
             greatest: self.greatest,
             most: self.most,
         })
@@ -295,8 +297,8 @@ impl SeriesTable {
     {
         self.slots.reserve(reference)?;
         self.slots.set(reference, slot.number());
-        let hint = lesser(self.hints[slot.index()], reference);
-        self.hints[slot.index()] = hint;
+        let lower_bound = lesser(self.lower_bounds[slot.index()], reference);
+        self.lower_bounds[slot.index()] = lower_bound;
         self.greatest = with_reference(self.greatest, reference);
         Ok(())
     }
@@ -312,6 +314,7 @@ impl SeriesTable {
         ensures most { self.new.most ≡ self.old.most }
         ensures full { result ≡ Err BindFault.Full → IsFull self.old labels.now }
         ensures room { IsOk result → IsFull self.old labels.now → ⊥ }
+        ensures limit { length self.old.series ≡ self.old.most → result ≡ Err BindFault.Full }
         ensures kept { OnErr result (AreAlike self.old self.new) }
     {
         let slot = self.rows.len();
@@ -320,8 +323,8 @@ impl SeriesTable {
         }
         let slot = slot as u32;
         self.rows.reserve(1)?;
-        self.hints.reserve(1)?;
-        self.lasts.reserve(1)?;
+        self.lower_bounds.reserve(1)?;
+        self.last_by_hash.reserve(1)?;
         self.slots.reserve(reference)?;
         let numbers = match self.texts.numbers(labels) {
             Ok(numbers) => numbers,
@@ -329,10 +332,10 @@ impl SeriesTable {
             Err(InternFault::Memory) => return Err(BindFault::Memory),
         };
         let hash = hash_of(labels);
-        let before = last_with(&self.lasts, hash);
-        note_last(&mut self.lasts, hash, slot + 1);
-        self.rows.push_reserved(Row { numbers, before });
-        self.hints.push_reserved(reference);
+        let previous = last_with(&self.last_by_hash, hash);
+        note_last(&mut self.last_by_hash, hash, slot + 1);
+        self.rows.push_reserved(Row { numbers, previous });
+        self.lower_bounds.push_reserved(reference);
         self.slots.set(reference, slot);
         self.greatest = with_reference(self.greatest, reference);
         Ok(Slot::new(slot))
@@ -352,6 +355,8 @@ impl SeriesTable {
         ensures most { self.new.most ≡ self.old.most }
         ensures full { result ≡ Err BindFault.Full → IsFull self.old labels.now }
         ensures room { IsOk result → IsFull self.old labels.now → ⊥ }
+        // At the limit of series a new one is refused before memory is asked for.
+        ensures limit { has_series self.old.series labels.now ≡ false → length self.old.series ≡ self.old.most → result ≡ Err BindFault.Full }
         ensures kept { OnErr result (AreAlike self.old self.new) }
         // What the bindings so far and this one say.
         ensures table { (bs : List Binding) → IsTableOf bs self.old → OnOk result (IsTableOf (bs ++ (record { reference = reference; labels = labels.now }) ∷ []) self.new) }

@@ -1,85 +1,10 @@
 //! Heads that take small logs, record by record.
 
-use crate::chunks::{Figures, figures, last_text};
+use crate::lines::{Line, apply_lines, label_set};
 use crate::{indices, same};
-use head_core::{Counts, Head, HeadFault, Hour, Run, Sample, Slot};
-use std::alloc::{AllocError, Global};
+use head_core::{Counts, Head, HeadFault, Run, Sample, Slot};
+use std::alloc::Global;
 use std::process::Abort;
-use wal_record::{Items, LabelSet, SampleEntry, SeriesEntry, StoneEntry, WalRecord};
-
-// A record of one entry, or of none.
-#[derive(Clone, Copy)]
-enum Line {
-    // a reference, and the name and the value of its one label
-    Series(u64, &'static [u8], u8),
-    // a reference, a time and a value
-    Sample(u64, i64, i64),
-    // a reference and the times to hide
-    Stone(u64, i64, i64),
-    Skipped,
-}
-
-// One label, with a value of one byte.
-fn label_set(alloc: Global, name: &[u8], value: u8) -> Result<LabelSet, AllocError> {
-    let mut labels = LabelSet::new(alloc);
-    match labels.push(name, &[value]) {
-        Ok(()) => Ok(labels),
-        Err(_) => Err(AllocError),
-    }
-}
-
-fn series(alloc: Global, reference: u64, name: &[u8], value: u8) -> Result<WalRecord, AllocError> {
-    let labels = label_set(alloc, name, value)?;
-    let mut entries = Vec::new(alloc);
-    entries.push(SeriesEntry { reference, labels })?;
-    Ok(WalRecord::Series(Items::from_vec(entries)))
-}
-
-fn sample(alloc: Global, reference: u64, time: i64, value: i64) -> Result<WalRecord, AllocError> {
-    let mut entries = Vec::new(alloc);
-    entries.push(SampleEntry {
-        reference,
-        time,
-        value,
-    })?;
-    Ok(WalRecord::Samples(Items::from_vec(entries)))
-}
-
-fn stone(
-    alloc: Global,
-    reference: u64,
-    min_time: i64,
-    max_time: i64,
-) -> Result<WalRecord, AllocError> {
-    let mut entries = Vec::new(alloc);
-    entries.push(StoneEntry {
-        reference,
-        min_time,
-        max_time,
-    })?;
-    Ok(WalRecord::Stones(Items::from_vec(entries)))
-}
-
-fn record_of(alloc: Global, line: Line) -> Result<WalRecord, AllocError> {
-    match line {
-        Line::Series(reference, name, value) => series(alloc, reference, name, value),
-        Line::Sample(reference, time, value) => sample(alloc, reference, time, value),
-        Line::Stone(reference, min_time, max_time) => stone(alloc, reference, min_time, max_time),
-        Line::Skipped => Ok(WalRecord::Other(None)),
-    }
-}
-
-fn apply_line(alloc: Global, head: &mut Head, line: Line) -> Result<(), HeadFault> {
-    let record = record_of(alloc, line)?;
-    head.apply(&record)
-}
-
-fn apply_lines(alloc: Global, head: &mut Head, lines: &[Line]) -> Result<(), HeadFault> {
-    for line in lines {
-        apply_line(alloc, head, *line)?;
-    }
-    Ok(())
-}
 
 // A series of one label, and what is kept of it.
 #[derive(Drop)]
@@ -460,63 +385,4 @@ const THREE_SERIES: Case = Case {
 #[test]
 fn three_series(rt: HostRuntime) -> Result<(), HeadFault> {
     check(&rt, rt.alloc(), &THREE_SERIES)
-}
-
-// 121 samples a second apart, and one in the next hour.
-fn apply_seconds(alloc: Global, head: &mut Head) -> Result<(), HeadFault> {
-    apply_line(alloc, head, Line::Series(1, b"a", b'b'))?;
-    for i in 0u32..121 {
-        let value = i64::from(i);
-        apply_line(alloc, head, Line::Sample(1, value * 1000, value))?;
-    }
-    apply_line(alloc, head, Line::Sample(1, 3_600_000, 0))
-}
-
-// The chunks of the first series in hour k, and the text of the last one.
-fn check_hour(
-    rt: &impl Abort,
-    alloc: Global,
-    head: &Head,
-    k: i64,
-    wanted: &[Figures],
-    text: Option<&[u8]>,
-) -> Result<(), HeadFault> {
-    if head.is_failed() || head.series() == 0 {
-        return Err(HeadFault::Failed);
-    }
-    let Some(hour) = Hour::new(k) else {
-        return Err(HeadFault::Failed);
-    };
-    let chunks = head.chunks_in(Slot::new(0), hour)?;
-    let found = figures(alloc, &chunks)?;
-    same(rt, k, found.as_slice(), wanted);
-    same(rt, k, last_text(&chunks), text);
-    Ok(())
-}
-
-const LAST_TEXT: &[u8] = b"\0\x01\x80\xd3\x0e\0\0\0\0\0\0\0\x78";
-
-const NEXT_TEXT: &[u8] = b"\0\x01\x80\xba\xb7\x03\0\0\0\0\0\0\0\0";
-
-fn check_hours(rt: &impl Abort, alloc: Global, head: &mut Head) -> Result<(), HeadFault> {
-    apply_seconds(alloc, head)?;
-    let chunks = [(0, 119_000, 120, 1201), (120_000, 120_000, 1, 13)];
-    let next = [(3_600_000, 3_600_000, 1, 14)];
-    for (k, wanted, text) in [
-        (-1, [].as_slice(), None),
-        (0, chunks.as_slice(), Some(LAST_TEXT)),
-        (1, next.as_slice(), Some(NEXT_TEXT)),
-        (2, [].as_slice(), None),
-    ] {
-        check_hour(rt, alloc, head, k, wanted, text)?;
-    }
-    Ok(())
-}
-
-#[test]
-fn hours_apart(rt: HostRuntime) -> Result<(), HeadFault> {
-    let mut head = Head::new(rt.alloc());
-    let outcome = check_hours(&rt, rt.alloc(), &mut head);
-    drop(head);
-    outcome
 }

@@ -29,6 +29,10 @@ mod columns;
 #[cfg(test)]
 mod heads;
 #[cfg(test)]
+mod hours;
+#[cfg(test)]
+mod lines;
+#[cfg(test)]
 mod postings;
 #[cfg(test)]
 mod replays;

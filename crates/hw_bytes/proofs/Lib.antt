@@ -8,3 +8,4 @@ pub mod Varints
 pub mod Vectors
 pub mod Lists
 pub mod Shortest
+pub mod Greatest

@@ -1,6 +1,6 @@
 -- Words on lists that several crates' definitions share.
-use Rattle.std.specs.Prelude.{◌≡◌, Bool, true, List, [], ◌∷◌, ◌++◌, Option, None, Some, if◌then◌else◌}
-use Rattle.std.specs.List.{list_any}
+use Rattle.std.specs.Prelude.{◌≡◌, Bool, true, List, [], ◌∷◌, ◌++◌, All, Contains, Option, None, Some, if◌then◌else◌}
+use Rattle.std.specs.List.{list_any, fold}
 
 -- for each element, in order, what f says of the elements before it and of it
 abbrev pub along : {A B : Type 0} → (List A → A → List B) → List A → List B
@@ -23,6 +23,20 @@ or_else (Some a) b = Some a
 abbrev pub last_found : {A B : Type 0} → (A → Option B) → List A → Option B
 last_found f [] = None
 last_found f (x ∷ xs) = or_else (last_found f xs) (f x)
+
+-- the greater of an element, if there is one, and another
+abbrev pub greater_by : {A : Type 0} → (A → A → Bool) → Option A → A → Option A
+greater_by less None x = Some x
+greater_by less (Some g) x = if less g x then Some x else Some g
+
+-- the greatest of the elements, if there are any: for an order, the only one that is `IsGreatest`
+abbrev pub greatest_by : {A : Type 0} → (A → A → Bool) → List A → Option A
+greatest_by less xs = fold (greater_by less) None xs
+
+-- one of the elements, and each is at most that one; or there are no elements
+abbrev pub IsGreatest : {A : Type 0} → (A → A → Type 0) → List A → Option A → Type 0
+IsGreatest at_most xs None = xs ≡ []
+IsGreatest at_most xs (Some g) = Contains xs g × All (λ x. at_most x g) xs
 
 -- a test of equality
 pub record IsSame {A : Type 0} (same : A → A → Bool) : Type 0 where

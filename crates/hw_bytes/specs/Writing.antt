@@ -1,6 +1,6 @@
 -- How numbers and texts are written: the shortest of their spellings. A number of fixed width has one, `big_bytes width n`.
 use Rattle.std.specs.Prelude.{◌≡◌, ℕ, zero, suc, ◌+◌, ◌/◌, ◌%◌, ◌≤◌, nat_lt, if◌then◌else◌, ℤ, List, [], ◌∷◌, ◌++◌, length}
-pub use Rattle.byteorder.specs.Endian.{big_bytes}
+pub use Rattle.byteorder.specs.Endian.{big_bytes, big_number}
 use Rattle.hw_bytes.specs.Spellings.{IsBytes}
 use Rattle.hw_bytes.specs.Numbers.{zigzag}
 

@@ -5,7 +5,7 @@ ghost use Rattle.std.specs.Int.{w64};
 ghost use Rattle.hw_bytes.specs.Spellings.{IsBytes, IsCode};
 ghost use Rattle.hw_bytes.specs.Checksum.{crc32c};
 ghost use Rattle.hw_bytes.specs.Numbers.{IsFixed, IsUvarint, IsVarint, IsText};
-ghost use Rattle.hw_bytes.specs.Writing.{IsShortest, uvarint, varint, text};
+ghost use Rattle.hw_bytes.specs.Writing.{IsShortest, big_bytes, uvarint, varint, text};
 
 /// Bytes begin with at most one spelling of each form, and that one says one thing: so each reader below answers *the*
 /// spelling at the front.
@@ -16,9 +16,10 @@ pub fn one_spelling()
     ensures text { IsCode IsText }
 {}
 
-/// What is written for a number of 64 bits, for a signed one, and for a text spells it, and there is no other spelling as
-/// short.
+/// What is written for a number, of fixed width or not, for a signed one, and for a text spells it, and there is no other spelling
+/// as short.
 pub fn shortest_spelling()
+    ensures fixed { (width n : ℕ) → n < 256 ^ width → IsShortest (IsFixed width) (big_bytes width n) n }
     ensures uvarint { (n : ℕ) → n < 2 ^ 64 → IsShortest IsUvarint (uvarint n) n }
     ensures varint { (z : ℤ) → FitsSigned w64 z → IsShortest IsVarint (varint z) z }
     ensures text { (bytes : List ℕ) → IsBytes bytes → length bytes < 2 ^ 64 → IsShortest IsText (text bytes) bytes }

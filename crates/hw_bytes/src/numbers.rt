@@ -13,7 +13,8 @@ use byteorder::{BigEndian, ByteOrder};
 pub fn be16_at(bytes: &[u8]) -> Option<u16>
     ensures found { IfSome result (λ n. IsAt (IsFixed 2) bytes.now n 2) }
     ensures value { IfSome result (λ n. n ≡ big_number 2 bytes.now) }
-    ensures none { IfNone result (length bytes.now < 2) }
+    ensures none { IfNone result (IsNowhere (IsFixed 2) bytes.now) }
+    ensures short { IfNone result (length bytes.now < 2) }
 {
     if bytes.len() < 2 {
         return None;
@@ -25,7 +26,8 @@ pub fn be16_at(bytes: &[u8]) -> Option<u16>
 pub fn be32_at(bytes: &[u8]) -> Option<u32>
     ensures found { IfSome result (λ n. IsAt (IsFixed 4) bytes.now n 4) }
     ensures value { IfSome result (λ n. n ≡ big_number 4 bytes.now) }
-    ensures none { IfNone result (length bytes.now < 4) }
+    ensures none { IfNone result (IsNowhere (IsFixed 4) bytes.now) }
+    ensures short { IfNone result (length bytes.now < 4) }
 {
     if bytes.len() < 4 {
         return None;
@@ -37,7 +39,8 @@ pub fn be32_at(bytes: &[u8]) -> Option<u32>
 pub fn be64_at(bytes: &[u8]) -> Option<u64>
     ensures found { IfSome result (λ n. IsAt (IsFixed 8) bytes.now n 8) }
     ensures value { IfSome result (λ n. n ≡ big_number 8 bytes.now) }
-    ensures none { IfNone result (length bytes.now < 8) }
+    ensures none { IfNone result (IsNowhere (IsFixed 8) bytes.now) }
+    ensures short { IfNone result (length bytes.now < 8) }
 {
     if bytes.len() < 8 {
         return None;

@@ -19,7 +19,8 @@ impl<'a, R> Disk<'a, R> {
     }
 }
 
-const CHUNK_LEN: usize = 65_536;
+// How many bytes are asked for at a time.
+const READ_SIZE: usize = 65_536;
 
 /// How many times a file is read from before it is given up, so that no device is read for ever.
 const MOST_READS: u64 = 4_294_967_296;
@@ -41,7 +42,7 @@ fn read_more(
 
 /// All that a reader has left. It is refused where the end has not come within `MOST_READS` reads.
 pub fn read_whole(alloc: Global, reader: &mut impl Read) -> Result<Vec<u8>, StoreFault> {
-    let mut chunk = vec![in alloc; 0; CHUNK_LEN]?;
+    let mut chunk = vec![in alloc; 0; READ_SIZE]?;
     let mut bytes = Vec::new(alloc);
     for _ in 0..MOST_READS {
         if read_more(reader, &mut chunk, &mut bytes)? {

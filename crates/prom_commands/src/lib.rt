@@ -9,7 +9,7 @@ mod report;
 mod spelling;
 mod store;
 
-pub use commands::{Outcome, Request, carry_out};
+pub use commands::{Answer, Request, carry_out};
 pub use disk::{Disk, read_whole};
 pub use fault::{Fault, Status};
 pub use report::DamageLine;

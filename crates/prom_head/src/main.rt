@@ -9,7 +9,7 @@ mod tests;
 
 use crate::fault::LineFault;
 use crate::program::run;
-use prom_commands::{Disk, Fault, Outcome, Status};
+use prom_commands::{Answer, Disk, Fault, Status};
 use std::env;
 use std::io::ErrorKind;
 use std::process::ExitCode;
@@ -40,25 +40,25 @@ fn complain(rt: &impl Eprint, fault: &Fault) {
 }
 
 // Prints what a command left, and gives the status to end with.
-fn show<R: Print + Eprint>(rt: &R, outcome: &Outcome) -> Status {
-    if rt.write_all(outcome.printed.as_bytes()).is_err() {
+fn show<R: Print + Eprint>(rt: &R, answer: &Answer) -> Status {
+    if rt.write_all(answer.printed.as_bytes()).is_err() {
         return refuse(rt, &LineFault::CannotPrint);
     }
-    if let Some(fault) = &outcome.fault {
+    if let Some(fault) = &answer.fault {
         complain(rt, fault);
     }
-    outcome.status
+    answer.status
 }
 
 // Runs the program on real files.
-fn run_here<R: Env + Files + AllocGlobal + Clone + Drop>(rt: &R) -> Result<Outcome, LineFault> {
+fn run_here<R: Env + Files + AllocGlobal + Clone + Drop>(rt: &R) -> Result<Answer, LineFault> {
     let words = arguments(rt)?;
     run(rt, &mut Disk::new(rt), &words)
 }
 
 fn main(rt: HostRuntime) -> ExitCode {
     let status = match run_here(&rt) {
-        Ok(outcome) => show(&rt, &outcome),
+        Ok(answer) => show(&rt, &answer),
         Err(fault) => refuse(&rt, &fault),
     };
     status.into()

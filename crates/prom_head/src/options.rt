@@ -11,7 +11,7 @@ use std::alloc::{AllocError, Global};
 fn dir<'a>(alloc: Global) -> Arg<'a> {
     Arg::new(alloc, "dir")
         .value_name("DIR")
-        .help("The directory of the log")
+        .help("The directory of the log: a server's `wal`")
         .required(true)
 }
 

@@ -2,7 +2,7 @@
 
 use crate::fault::LineFault;
 use crate::program::run;
-use prom_commands::{Outcome, Store, StoreFault};
+use prom_commands::{Answer, Store, StoreFault};
 use std::alloc::{AllocError, Global};
 use std::fmt::Debug;
 use std::fs::File;
@@ -68,18 +68,18 @@ fn words(alloc: Global, line: &str) -> Result<Vec<String>, AllocError> {
     Ok(words)
 }
 
-// What an outcome says, or else prints.
-fn text_of(alloc: Global, outcome: &Outcome) -> Result<String, AllocError> {
-    match &outcome.fault {
+// What an answer says, or else prints.
+fn text_of(alloc: Global, answer: &Answer) -> Result<String, AllocError> {
+    match &answer.fault {
         Some(fault) => fault.to_string(alloc),
-        None => outcome.printed.clone(),
+        None => answer.printed.clone(),
     }
 }
 
 // The status of a run, and what it says or prints.
-fn told(alloc: Global, ending: &Result<Outcome, LineFault>) -> Result<(u8, String), AllocError> {
+fn told(alloc: Global, ending: &Result<Answer, LineFault>) -> Result<(u8, String), AllocError> {
     match ending {
-        Ok(outcome) => Ok((outcome.status as u8, text_of(alloc, outcome)?)),
+        Ok(answer) => Ok((answer.status as u8, text_of(alloc, answer)?)),
         Err(fault) => Ok((fault.status() as u8, fault.to_string(alloc)?)),
     }
 }
@@ -168,7 +168,7 @@ Counts what the log holds
 Usage: prom_head replay <DIR>
 
 Arguments:
-  <DIR>  The directory of the log
+  <DIR>  The directory of the log: a server's `wal`
 
 Options:
   -h, --help  Print help
@@ -180,7 +180,7 @@ Lists the records of the log
 Usage: prom_head records <DIR>
 
 Arguments:
-  <DIR>  The directory of the log
+  <DIR>  The directory of the log: a server's `wal`
 
 Options:
   -h, --help  Print help
@@ -192,7 +192,7 @@ Lists the series of the log
 Usage: prom_head series [OPTIONS] <DIR>
 
 Arguments:
-  <DIR>  The directory of the log
+  <DIR>  The directory of the log: a server's `wal`
 
 Options:
       --pair <NAME=VALUE>  Only the series with this label, spelled as it is printed

@@ -6,7 +6,7 @@ use Rattle.head_column.proofs.decoding.front_sample.Goals as goal
 pub returns-in_err-be64_at-clause-none : goal.returns-in_err-be64_at-clause-none
 returns-in_err-be64_at-clause-none c =
     at_none (IsSample c.args.before) c.args.bytes.now c.from_residual-in_err-be64_at.result
-    (λ _. sample_no_value c.args.before c.args.bytes.now c.split_at.result.1.now c.in_ok-time.time c.in_ok-time.len c.in_ok-time.ensures.found c.split_at.ensures.back c.in_err-be64_at.ensures.none)
+    (λ _. sample_no_value c.args.before c.args.bytes.now c.split_at.result.1.now c.in_ok-time.time c.in_ok-time.len c.in_ok-time.ensures.found c.split_at.ensures.back c.in_err-be64_at.ensures.short)
 
 pub returns-clause-found : goal.returns-clause-found
 returns-clause-found c =

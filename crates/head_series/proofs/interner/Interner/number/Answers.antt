@@ -1,4 +1,4 @@
-use Rattle.std.proofs.Common.{◌≡◌, ap, sym, subst, ◌∙◌, inl, arith, length, false, Some}
+use Rattle.std.proofs.Common.{◌≡◌, ap, sym, subst, ◌∙◌, inl, arith, length, true, false, Some}
 use Rattle.std.specs.Prelude.{map}
 use Rattle.std.proofs.lemmas.List.{length-map, length-append}
 use Rattle.head_series.specs.Rows.{AreDistinct}
@@ -64,3 +64,19 @@ returns-clause-within c =
     let longer = simp (length-map, length-append) at (ap length grown) in
     let kept : length (map (λ v. v.items) c.insert_full.new.self.keys) ≡ length c.insert_full.new.self.keys = (simp length-map) in
     omega (arith, longer, kept, many, c.len-number.ensures.len)
+
+pub returns-in-Some-clause-limit : goal.returns-in-Some-clause-limit
+returns-in-Some-clause-limit c new _ =
+    let k : true ≡ false = sym (place_some (same_text c.args.text.now) c.args.self.now.texts c.in-Some.number (sym c.in-Some.ensures)) ∙ new in absurd (cc)
+
+pub returns-then-number-self-clause-known : goal.returns-then-number-self-clause-known
+returns-then-number-self-clause-known c old =
+    let k : true ≡ false = sym old ∙ place_none (same_text c.args.text.now) c.args.self.now.texts (sym c.in-None.ensures) in absurd (cc)
+
+pub returns-in_err-text-clause-known : goal.returns-in_err-text-clause-known
+returns-in_err-text-clause-known c old =
+    let k : true ≡ false = sym old ∙ place_none (same_text c.args.text.now) c.args.self.now.texts (sym c.in-None.ensures) in absurd (cc)
+
+pub returns-in_err-insert_full-clause-known : goal.returns-in_err-insert_full-clause-known
+returns-in_err-insert_full-clause-known c old =
+    let k : true ≡ false = sym old ∙ place_none (same_text c.args.text.now) c.args.self.now.texts (sym c.in-None.ensures) in absurd (cc)

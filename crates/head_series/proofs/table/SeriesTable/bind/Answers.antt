@@ -69,3 +69,11 @@ returns-in-Ok-clause-table c bs h =
 pub returns-in_ok-point-in-Some-clause-within : goal.returns-in_ok-point-in-Some-clause-within
 returns-in_ok-point-in-Some-clause-within c =
     subst (λ ss. c.in-Some.slot < length ss) (sym c.point.ensures.series) (place_within (same_labels c.args.labels.now) c.args.self.now.series c.in-Some.slot (sym c.in-Some.ensures.slot))
+
+pub returns-in_err-point-in-Some-clause-limit : goal.returns-in_err-point-in-Some-clause-limit
+returns-in_err-point-in-Some-clause-limit c new _ =
+    let k : true ≡ false = sym (place_some (same_labels c.args.labels.now) c.args.self.now.series c.in-Some.slot (sym c.in-Some.ensures.slot)) ∙ new in absurd (cc)
+
+pub returns-in_ok-point-in-Some-clause-limit : goal.returns-in_ok-point-in-Some-clause-limit
+returns-in_ok-point-in-Some-clause-limit c new _ =
+    let k : true ≡ false = sym (place_some (same_labels c.args.labels.now) c.args.self.now.series c.in-Some.slot (sym c.in-Some.ensures.slot)) ∙ new in absurd (cc)

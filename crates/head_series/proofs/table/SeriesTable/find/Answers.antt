@@ -1,4 +1,6 @@
-use Rattle.std.proofs.Common.{◌≡◌, ap, sym, arith, length}
+use Rattle.std.proofs.Common.{rules, ◌≡◌, Some, None, ap, sym, ◌∙◌, arith, length}
+use Rattle.head_series.specs.ReferenceSlots.{pairs_of, slot_of}
+use Rattle.head_series.proofs.Shown.{slot_shown}
 use Rattle.std.specs.Prelude.{map}
 use Rattle.std.proofs.lemmas.List.{length-map}
 use Rattle.head_series.specs.declared.rows.Row.{Row}
@@ -11,3 +13,15 @@ returns-in-Some-clause-within c =
     let rows : length (map (λ (r : Row). r.numbers.items) c.self.inside.rows.items) ≡ length c.self.inside.rows.items = (simp length-map) in
     let at = c.new.ensures in
     omega (arith, w, many, rows, at)
+
+pub returns-in-Some-clause-slot : goal.returns-in-Some-clause-slot
+returns-in-Some-clause-slot c =
+    let shown : pairs_of c.self.inside.slots ≡ c.args.self.now.slots = ap (λ t. t.slots) c.self.view_is in
+    let found : Some c.new.result ≡ slot_of c.self.inside.slots c.args.reference = search rules in
+    found ∙ sym (slot_shown c.args.self.now c.self.inside.slots shown c.args.reference)
+
+pub returns-in-None-clause-slot : goal.returns-in-None-clause-slot
+returns-in-None-clause-slot c =
+    let shown : pairs_of c.self.inside.slots ≡ c.args.self.now.slots = ap (λ t. t.slots) c.self.view_is in
+    let found : None ≡ slot_of c.self.inside.slots c.args.reference = search rules in
+    found ∙ sym (slot_shown c.args.self.now c.self.inside.slots shown c.args.reference)

@@ -37,8 +37,8 @@ loop-next-smaller c =
     let v = ap (λ t. t.series) c.self.view_is in
     let e : c.loop-next.next ≡ (c.loop-next.next - 1) + 1 = omega (arith, c.loop-next-test.true) in
     let w = sought_within c.args.self.now.series c.args.labels.now c.loop-next.next (c.loop-next.next - 1) e c.loop-next.invariant in
-    let b = row_before c.self.inside.rows.items (λ (r : Row). r.numbers.items) (λ (r : Row). r.before) c.self.inside.texts.texts c.args.self.now.series (c.loop-next.next - 1) c.index-row.result.now v w c.index-row.ensures in
-    let k = sought_less c.args.self.now.series c.args.labels.now (λ h. or_zero (lookup (nat_eq h) c.self.inside.lasts.entries)) (map (λ (r : Row). r.before) c.self.inside.rows.items) c.loop-next.next (c.loop-next.next - 1) (subst (λ ss. IsChained (map labels_hash ss) (λ h. or_zero (lookup (nat_eq h) c.self.inside.lasts.entries)) (map (λ (r : Row). r.before) c.self.inside.rows.items)) v c.self.invariant.chained) e c.loop-next.invariant in
+    let b = row_before c.self.inside.rows.items (λ (r : Row). r.numbers.items) (λ (r : Row). r.previous) c.self.inside.texts.texts c.args.self.now.series (c.loop-next.next - 1) c.index-row.result.now v w c.index-row.ensures in
+    let k = sought_less c.args.self.now.series c.args.labels.now (λ h. or_zero (lookup (nat_eq h) c.self.inside.last_by_hash.entries)) (map (λ (r : Row). r.previous) c.self.inside.rows.items) c.loop-next.next (c.loop-next.next - 1) (subst (λ ss. IsChained (map labels_hash ss) (λ h. or_zero (lookup (nat_eq h) c.self.inside.last_by_hash.entries)) (map (λ (r : Row). r.previous) c.self.inside.rows.items)) v c.self.invariant.chained) e c.loop-next.invariant in
     omega (arith, b, k)
 
 pub loop-next-preserved : goal.loop-next-preserved
@@ -46,10 +46,10 @@ loop-next-preserved c =
     let v = ap (λ t. t.series) c.self.view_is in
     let e : c.loop-next.next ≡ (c.loop-next.next - 1) + 1 = omega (arith, c.loop-next-test.true) in
     let w = sought_within c.args.self.now.series c.args.labels.now c.loop-next.next (c.loop-next.next - 1) e c.loop-next.invariant in
-    let b = row_before c.self.inside.rows.items (λ (r : Row). r.numbers.items) (λ (r : Row). r.before) c.self.inside.texts.texts c.args.self.now.series (c.loop-next.next - 1) c.index-row.result.now v w c.index-row.ensures in
+    let b = row_before c.self.inside.rows.items (λ (r : Row). r.numbers.items) (λ (r : Row). r.previous) c.self.inside.texts.texts c.args.self.now.series (c.loop-next.next - 1) c.index-row.result.now v w c.index-row.ensures in
     let at = row_series c.self.inside.rows.items (λ (r : Row). r.numbers.items) c.self.inside.texts.texts c.args.self.now.series (c.loop-next.next - 1) c.index-row.result.now v w c.index-row.ensures in
     subst (IsSought c.args.self.now.series c.args.labels.now) b
-    (sought_next c.args.self.now.series c.args.labels.now (λ h. or_zero (lookup (nat_eq h) c.self.inside.lasts.entries)) (map (λ (r : Row). r.before) c.self.inside.rows.items) c.loop-next.next (c.loop-next.next - 1) (subst (λ ss. IsChained (map labels_hash ss) (λ h. or_zero (lookup (nat_eq h) c.self.inside.lasts.entries)) (map (λ (r : Row). r.before) c.self.inside.rows.items)) v c.self.invariant.chained) e
+    (sought_next c.args.self.now.series c.args.labels.now (λ h. or_zero (lookup (nat_eq h) c.self.inside.last_by_hash.entries)) (map (λ (r : Row). r.previous) c.self.inside.rows.items) c.loop-next.next (c.loop-next.next - 1) (subst (λ ss. IsChained (map labels_hash ss) (λ h. or_zero (lookup (nat_eq h) c.self.inside.last_by_hash.entries)) (map (λ (r : Row). r.previous) c.self.inside.rows.items)) v c.self.invariant.chained) e
     (λ g. c.is_named.ensures.no c.if-is_named.false (let m : Some c.args.labels.now ≡ Some (labels_in c.self.inside.texts.texts c.index-row.result.now.numbers.items) = sym g ∙ at in
     (let n : c.args.labels.now ≡ labels_in c.self.inside.texts.texts c.index-row.result.now.numbers.items = cc in n ∙ ap (labels_in c.self.inside.texts.texts) (sym c.deref.ensures.value))))
     c.loop-next.invariant)

@@ -1,0 +1,95 @@
+-- The references of a map.
+use Rattle.std.proofs.Common.{◌≡◌, ℕ, zero, suc, ◌+◌, ◌<◌, ◌≤◌, ◌⊎◌, Bool, true, false, List, [], ◌∷◌, ◌++◌, Some, None, Option, ap, sym, ◌∙◌, refl, arith, inl, inr, length, take, cond, eqb-true, eq-eqb, zero-add}
+use Rattle.std.proofs.lemmas.Bool.{cases_lt}
+use Rattle.std.proofs.lemmas.List.{get_or-take, get_or_past, length-take}
+use Rattle.std.proofs.lemmas.Map.Entries.{lookup-filter-keys}
+use Rattle.hw_bytes.specs.Lists.{or_else}
+use Rattle.std.specs.Prelude.{filter, nat_eq, nat_le, nat_lt, slice_get, slice_index, if◌then◌else◌, IfSome, IfNone}
+use Rattle.std.specs.Map.{lookup}
+use Rattle.head_series.specs.ReferenceSlots.{ReferenceSlotsValue, low_end, low_pairs, pairs_of, slot_of, before_one, IsHigh, IsUpTo}
+
+pub lookup_place : (es : List (ℕ × ℕ)) (r s : ℕ) → lookup (nat_eq r) es ≡ Some s → (j : ℕ) × (slice_get es j ≡ Some (r, s)) × (j < length es)
+lookup_place [] r s h = cc
+lookup_place (e ∷ es) r s h = at (nat_eq r e.0) refl h (λ k. lookup_place es r s k) where
+  at : (b : Bool) → nat_eq r e.0 ≡ b → cond b (Some e.1) (lookup (nat_eq r) es) ≡ Some s → (lookup (nat_eq r) es ≡ Some s → (j : ℕ) × (slice_get es j ≡ Some (r, s)) × (j < length es))
+      → (j : ℕ) × (slice_get (e ∷ es) j ≡ Some (r, s)) × (j < suc (length es))
+  at true f k deep = let m : e.1 ≡ s = cc in let n : r ≡ e.0 = eqb-true r e.0 f in (0, ap Some (ap (λ z. (z, e.1)) (sym n) ∙ ap (λ z. (r, z)) m), omega arith)
+  at false f k deep = next (deep k) where
+    next : (j : ℕ) × (slice_get es j ≡ Some (r, s)) × (j < length es) → (j : ℕ) × (slice_get (e ∷ es) j ≡ Some (r, s)) × (j < suc (length es))
+    next (j, a, b) = (suc j, a, omega (arith, b))
+
+slot_high : (o : ReferenceSlotsValue) (r : ℕ) → 4194304 ≤ r → slot_of o r ≡ lookup (nat_eq r) o.high
+slot_high o r h = let k : nat_lt r 4194304 ≡ false = grind arith in ap (λ b. if b then before_one (slice_index o.low r) else lookup (nat_eq r) o.high) k
+
+pub up_to : (o : ReferenceSlotsValue) (s i : ℕ) (least : Option ℕ) → length o.high ≤ i → ((j r v : ℕ) → j < i → slice_get o.high j ≡ Some (r, v) → 4194304 ≤ r → slot_of o r ≡ Some s → IsUpTo least r)
+    → (r : ℕ) → 4194304 ≤ r → slot_of o r ≡ Some s → IsUpTo least r
+up_to o s i least w h r b e = at (lookup_place o.high r s (sym (slot_high o r b) ∙ e)) where
+  at : (j : ℕ) × (slice_get o.high j ≡ Some (r, s)) × (j < length o.high) → IsUpTo least r
+  at (j, a, c) = h j r s (omega (arith, c, w)) a b e
+
+pub high_some : (o : ReferenceSlotsValue) (s : ℕ) (least : Option ℕ) → IsHigh o s least → ((r : ℕ) → 4194304 ≤ r → slot_of o r ≡ Some s → IsUpTo least r)
+    → IfSome least (λ q. (slot_of o q ≡ Some s) × ((r : ℕ) → 4194304 ≤ r → slot_of o r ≡ Some s → q ≤ r))
+high_some o s None h u = tt
+high_some o s (Some q) h u = (h, u)
+
+pub high_none : (o : ReferenceSlotsValue) (s : ℕ) (least : Option ℕ) → ((r : ℕ) → 4194304 ≤ r → slot_of o r ≡ Some s → IsUpTo least r)
+    → IfNone least ((r : ℕ) → 4194304 ≤ r → slot_of o r ≡ Some s → ⊥)
+high_none o s None u = u
+high_none o s (Some q) u = tt
+
+-- ---- what a table shows of them
+
+lookup-append : (r : ℕ) (es fs : List (ℕ × ℕ)) → lookup (nat_eq r) (es ++ fs) ≡ or_else (lookup (nat_eq r) es) (lookup (nat_eq r) fs)
+lookup-append r [] fs = refl
+lookup-append r (e ∷ es) fs = at (nat_eq r e.0) (lookup-append r es fs) where
+  at : (b : Bool) → lookup (nat_eq r) (es ++ fs) ≡ or_else (lookup (nat_eq r) es) (lookup (nat_eq r) fs)
+      → cond b (Some e.1) (lookup (nat_eq r) (es ++ fs)) ≡ or_else (cond b (Some e.1) (lookup (nat_eq r) es)) (lookup (nat_eq r) fs)
+  at true k = refl
+  at false k = k
+
+or_none : (o : Option ℕ) → or_else o None ≡ o
+or_none None = refl
+or_none (Some s) = refl
+
+other : (r n : ℕ) → r < n ⊎ n < r → nat_eq r n ≡ false
+other r n (inl h) = grind arith
+other r n (inr h) = grind arith
+
+low_none : (n : ℕ) (xs : List ℕ) (r : ℕ) → r < n → lookup (nat_eq r) (low_pairs n xs) ≡ None
+low_none n [] r h = refl
+low_none n (zero ∷ xs) r h = low_none (suc n) xs r (omega (arith, h))
+low_none n (suc s ∷ xs) r h = ap (λ b. cond b (Some s) (lookup (nat_eq r) (low_pairs (suc n) xs))) (other r n (inl h)) ∙ low_none (suc n) xs r (omega (arith, h))
+
+low_at : (n : ℕ) (xs : List ℕ) (i : ℕ) → lookup (nat_eq (n + i)) (low_pairs n xs) ≡ before_one (slice_index xs i)
+low_at n [] i = refl
+low_at n (zero ∷ xs) zero = low_none (suc n) xs (n + 0) (omega arith)
+low_at n (zero ∷ xs) (suc i) = let e : n + suc i ≡ suc n + i = omega arith in ap (λ m. lookup (nat_eq m) (low_pairs (suc n) xs)) e ∙ low_at (suc n) xs i
+low_at n (suc s ∷ xs) zero = let e : nat_eq (n + 0) n ≡ true = eq-eqb (n + 0) n (omega arith) in ap (λ b. cond b (Some s) (lookup (nat_eq (n + 0)) (low_pairs (suc n) xs))) e
+low_at n (suc s ∷ xs) (suc i) =
+    let e : n + suc i ≡ suc n + i = omega arith in
+    ap (λ b. cond b (Some s) (lookup (nat_eq (n + suc i)) (low_pairs (suc n) xs))) (other (n + suc i) n (inr (omega arith)))
+    ∙ ap (λ m. lookup (nat_eq m) (low_pairs (suc n) xs)) e
+    ∙ low_at (suc n) xs i
+
+high_at : (b : Bool) (r : ℕ) (es : List (ℕ × ℕ)) → nat_le low_end r ≡ b → lookup (nat_eq r) (filter (λ e. nat_le low_end e.0) es) ≡ cond b (lookup (nat_eq r) es) None
+high_at b r es h = lookup-filter-keys (nat_eq r) (λ k. nat_le low_end k) b (λ k e. ap (nat_le low_end) (sym (eqb-true r k e)) ∙ h) es
+
+-- the pairs give each reference the slot that it has
+pub shown_slot : (o : ReferenceSlotsValue) (r : ℕ) → lookup (nat_eq r) (pairs_of o) ≡ slot_of o r
+shown_slot o r =
+    lookup-append r (low_pairs 0 (take low_end o.low)) (filter (λ e. nat_le low_end e.0) o.high)
+    ∙ ap (λ x. or_else x (lookup (nat_eq r) (filter (λ e. nat_le low_end e.0) o.high))) (ap (λ m. lookup (nat_eq m) (low_pairs 0 (take low_end o.low))) (sym (zero-add r)) ∙ low_at 0 (take low_end o.low) r)
+    ∙ by (cases_lt r low_end) where
+      by : (r < low_end) ⊎ (low_end ≤ r) → or_else (before_one (slice_index (take low_end o.low) r)) (lookup (nat_eq r) (filter (λ e. nat_le low_end e.0) o.high)) ≡ slot_of o r
+      by (inl h) =
+          let low : nat_lt r low_end ≡ true = grind arith in
+          let not_high : nat_le low_end r ≡ false = grind arith in
+          ap (or_else (before_one (slice_index (take low_end o.low) r))) (high_at false r o.high not_high)
+          ∙ or_none (before_one (slice_index (take low_end o.low) r))
+          ∙ ap before_one (get_or-take low_end o.low r 0 h)
+          ∙ sym (ap (λ b. if b then before_one (slice_index o.low r) else lookup (nat_eq r) o.high) low)
+      by (inr h) =
+          let high : nat_le low_end r ≡ true = grind arith in
+          ap (λ n. or_else (before_one n) (lookup (nat_eq r) (filter (λ e. nat_le low_end e.0) o.high))) (get_or_past (take low_end o.low) r 0 (omega (arith, length-take low_end o.low, h)))
+          ∙ high_at true r o.high high
+          ∙ sym (slot_high o r h)

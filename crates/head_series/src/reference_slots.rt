@@ -1,0 +1,190 @@
+//! The slot of each reference.
+
+ghost use Rattle.std.specs.Prelude.{◌≡◌, ◌<◌, ◌≤◌, ◌+◌, ◌^◌, ℕ, Some, None, [], length, IfOk, IfSome, IfNone, OnOk};
+ghost use Rattle.head_series.specs.ReferenceSlots.{low_end, slot_of, HasRoom, IsHigh, IsUpTo};
+ghost use Rattle.head_series.specs.Table.{IsWith, IsLeast};
+
+use crate::maps::copied;
+use indexmap::IndexMap;
+use std::alloc::{AllocError, Global};
+use std::marker::Model;
+
+// References below this one have a place in a list.
+const LOW_END: u64 = 4_194_304;
+
+/// The slot of each reference: small references in a list, the others in a map.
+#[derive(Debug)]
+pub(crate) struct ReferenceSlots {
+    low: Vec<u32>,
+    high: IndexMap<u64, u32>,
+}
+
+// Written out: where another function lets go of these, its proof has one call, and not a copy of this.
+impl Drop for ReferenceSlots {
+    fn drop(self) {
+        let ReferenceSlots {
+            low: _low,
+            high: _high,
+        } = self;
+    }
+}
+
+impl Model for ReferenceSlots {
+    ghost use Rattle.std.specs.Prelude.{length, ◌≤◌};
+    ghost use Rattle.indexmap.specs.IndexMap.{spare};
+    ghost use Rattle.head_series.specs.ReferenceSlots.{ReferenceSlotsValue, low_end};
+
+    ghost Value = { ReferenceSlotsValue };
+
+    ghost invariant = { λ o. length o.low.items ≤ low_end };
+
+    ghost view = { λ o. record { low = o.low.items; high = o.high.entries; room = spare o.high } };
+}
+
+impl ReferenceSlots {
+    // No reference has a slot.
+    pub(crate) fn new(alloc: Global) -> ReferenceSlots
+        ensures { (r : ℕ) → slot_of result r ≡ None }
+    {
+        ReferenceSlots {
+            low: Vec::new(alloc),
+            high: IndexMap::new(alloc),
+        }
+    }
+
+    // The slot of a reference.
+    pub(crate) fn find(&self, reference: u64) -> Option<u32>
+        ensures { result ≡ slot_of self.now reference }
+    {
+        if reference < LOW_END {
+            if reference < self.low.len() as u64 {
+                let after = self.low[reference as usize];
+                if after == 0 { None } else { Some(after - 1) }
+            } else {
+                None
+            }
+        } else {
+            self.high.get(&reference).copied()
+        }
+    }
+
+    // Makes room for the slot of a reference.
+    pub(crate) fn reserve(&mut self, reference: u64) -> Result<(), AllocError>
+        ensures same { (r : ℕ) → slot_of self.new r ≡ slot_of self.old r }
+        ensures room { OnOk result (HasRoom self.new reference) }
+    {
+        if reference < LOW_END {
+            let many = reference as usize + 1;
+            if self.low.len() < many {
+                self.low.resize(many, 0)?;
+            }
+            Ok(())
+        } else {
+            self.high.reserve(1)
+        }
+    }
+
+    // Gives a reference the slot.
+    pub(crate) fn set(&mut self, reference: u64, slot: u32)
+        requires room { HasRoom self.old reference }
+        requires small { slot + 1 < 2 ^ 32 }
+        ensures { IsWith (slot_of self.old) reference slot (slot_of self.new) }
+    {
+        if reference < LOW_END {
+            self.low[reference as usize] = slot + 1;
+        } else {
+            self.high.insert(reference, slot).unwrap();
+        }
+    }
+
+    // The same slots, in memory of their own.
+    pub(crate) fn copy(&self) -> Result<ReferenceSlots, AllocError>
+        ensures { IfOk result (λ copy. (r : ℕ) → slot_of copy r ≡ slot_of self.now r) }
+    {
+        Ok(ReferenceSlots {
+            low: Vec::from_slice(*self.low.allocator(), &self.low)?,
+            high: copied(&self.high)?,
+        })
+    }
+
+    // The least reference that has the slot. There is none before `from`.
+    pub(crate) fn least(&self, slot: u32, from: u64) -> Option<u64>
+        requires { (r : ℕ) → slot_of self.now r ≡ Some slot → from ≤ r }
+        ensures { IsLeast (λ r. slot_of self.now r ≡ Some slot) result }
+    {
+        match self.least_low(slot, from) {
+            Some(reference) => Some(reference),
+            None => self.least_high(slot),
+        }
+    }
+
+    // The least reference below the bound that has the slot. There is none before `from`.
+    fn least_low(&self, slot: u32, from: u64) -> Option<u64>
+        requires { (r : ℕ) → slot_of self.now r ≡ Some slot → from ≤ r }
+        ensures some { IfSome result (λ q. (slot_of self.now q ≡ Some slot) × (q < low_end) × ((r : ℕ) → slot_of self.now r ≡ Some slot → q ≤ r)) }
+        ensures none { IfNone result ((r : ℕ) → r < low_end → slot_of self.now r ≡ Some slot → ⊥) }
+    {
+        let end = self.low.len() as u64;
+        let mut reference = from;
+        while reference < end {
+            match self.find(reference) {
+                Some(found) => {
+                    if found == slot {
+                        return Some(reference);
+                    }
+                }
+                None => {}
+            }
+            reference += 1;
+        }
+        None
+    }
+
+    // The least reference from the bound on that has the slot.
+    fn least_high(&self, slot: u32) -> Option<u64>
+        ensures some { IfSome result (λ q. (slot_of self.now q ≡ Some slot) × ((r : ℕ) → low_end ≤ r → slot_of self.now r ≡ Some slot → q ≤ r)) }
+        ensures none { IfNone result ((r : ℕ) → low_end ≤ r → slot_of self.now r ≡ Some slot → ⊥) }
+    {
+        let mut least: Option<u64> = None;
+        for i in 0..self.high.len() {
+            match self.high.get_index(i) {
+                Some((reference, _)) => {
+                    let reference = *reference;
+                    least = self.lesser_of(least, reference, slot);
+                }
+                None => {}
+            }
+        }
+        least
+    }
+
+    // The lesser of these and the reference, if that is past the bound and has the slot.
+    fn lesser_of(&self, least: Option<u64>, reference: u64, slot: u32) -> Option<u64>
+        requires { IsHigh self.now slot least }
+        ensures high { IsHigh self.now slot result }
+        ensures old { (r : ℕ) → IsUpTo least r → IsUpTo result r }
+        ensures new { low_end ≤ reference → slot_of self.now reference ≡ Some slot → IsUpTo result reference }
+    {
+        if reference < LOW_END {
+            return least;
+        }
+        match self.find(reference) {
+            Some(found) => {
+                if found != slot {
+                    return least;
+                }
+            }
+            None => return least,
+        }
+        match least {
+            None => Some(reference),
+            Some(other) => {
+                if reference < other {
+                    Some(reference)
+                } else {
+                    Some(other)
+                }
+            }
+        }
+    }
+}
