@@ -1,8 +1,9 @@
 //! Series and the references that name them.
 
-ghost use Rattle.std.specs.Prelude.{◌≡◌, ◌<◌, ◌≤◌, ◌^◌, ◌++◌, ◌∷◌, [], ℕ, Some, None, Err, false, List, not, length, slice_get, IfOk, IfSome, OnOk, OnErr, IsOk};
-ghost use Rattle.wal_record.specs.Labels.{compare_labels, same_labels};
+ghost use Rattle.std.specs.Prelude.{◌≡◌, ◌<◌, ◌≤◌, ◌^◌, ◌++◌, ◌∷◌, [], ℕ, All, Some, None, Err, false, List, not, length, slice_get, IfOk, IfSome, OnOk, OnErr, IsOk};
+ghost use Rattle.wal_record.specs.Labels.{IsLabelSet, compare_labels, same_labels};
 ghost use Rattle.head_series.specs.Bindings.{Binding, IsTableOf};
+ghost use Rattle.head_series.specs.Rows.{AreDistinct};
 ghost use Rattle.head_series.specs.Table.{after, has_series, labels_at, slot_at, texts_with, with_greatest, with_series, AreAlike, IsFull, IsLeast, IsWith};
 ghost use Rattle.head_series.specs.Texts.{place, with_texts, texts_of};
 
@@ -148,11 +149,13 @@ impl SeriesTable {
         }
     }
 
-    /// How many series there are.
+    /// How many series there are. By `distinct` and `ordered` a caller learns what holds of the series of every table.
     pub fn len(&self) -> usize
         ensures count { result ≡ length self.now.series }
         ensures few { result ≤ self.now.most }
         ensures fits { result < 2 ^ 32 }
+        ensures distinct { AreDistinct same_labels self.now.series }
+        ensures ordered { All IsLabelSet self.now.series }
     {
         // for the proof, which knows the invariant where a field is named
         let _most = self.most;

@@ -1,0 +1,4 @@
+pub mod Files
+pub mod Tombstones
+pub mod Meta
+pub mod Ulids

@@ -1,0 +1,132 @@
+//! Chunk files.
+
+ghost use Rattle.std.specs.Prelude.{◌≡◌, ◌≤◌, ◌<◌, ◌+◌, ◌*◌, ◌^◌, ◌++◌, ◌∷◌, [], List, All, map, ◌↔◌, IsTrue, Err, IfOk, OnErr, OnOk, length};
+ghost use Rattle.std.specs.List.{flat_map};
+ghost use Rattle.block_text.specs.Sums.{Text};
+ghost use Rattle.head_column.specs.declared.chunk.Chunk.{Chunk as ChunkOfRow};
+ghost use Rattle.hw_bytes.specs.Writing.{uvarint};
+ghost use Rattle.block_files.specs.Files.{AreShort, all_texts, chunk_element, chunk_files, file_head, last_reference, longest_chunk, references, row_references, texts, with_chunk, with_last};
+
+use block_text::WriteFault;
+use head_column::Chunk;
+use hw_bytes::{Items, crc32c, put_be32, put_uvarint};
+use std::alloc::{AllocError, Global};
+use std::marker::Model;
+
+/// The most bytes of a chunk file in a block.
+pub const CHUNK_FILE_LIMIT: u32 = 536_870_912;
+
+// What a file begins with: the magic, the version and three zeros.
+const HEAD: [u8; 8] = [0x85, 0xBD, 0x40, 0xDD, 1, 0, 0, 0];
+
+// How a chunk's data are encoded.
+pub(crate) const ENCODING: u8 = 0x41;
+
+// How many files there may be.
+const MOST_FILES: usize = 0x1_0000_0000;
+
+// How many bytes a chunk takes in its file.
+#[tactic(auto, unfolding(hw_bytes::specs::Writing::uvarint, hw_bytes::specs::Writing::uvarint_in, block_text::specs::Sums::sum_text))]
+fn chunk_len(data: &[u8]) -> usize
+    requires { length «data».now ≤ longest_chunk }
+    ensures { result ≡ length (chunk_element «data».now) }
+{
+    let spelled = if data.len() < 128 { 1 } else { 2 };
+    spelled + 1 + data.len() + 4
+}
+
+// Puts a chunk behind the bytes of its file.
+#[tactic(auto, unfolding(block_text::specs::Sums::sum_text))]
+fn put_chunk(file: &mut Vec<u8>, data: &[u8]) -> Result<(), AllocError>
+    ensures put { OnOk result (file.new.items ≡ file.old.items ++ chunk_element «data».now) }
+    ensures kept { OnErr result (length file.old.items ≤ length file.new.items) }
+{
+    put_uvarint(file, data.len() as u64)?;
+    let start = file.len();
+    file.push(ENCODING)?;
+    file.extend_from_slice(data)?;
+    let sum = crc32c(&file[start..]);
+    put_be32(file, sum)
+}
+
+// Begins a file behind the others.
+fn begin_file(
+    alloc: Global,
+    full: &mut Vec<Items<u8>>,
+    last: &mut Vec<u8>,
+) -> Result<(), WriteFault>
+    requires few { length full.old.items < 2 ^ 32 }
+    ensures files { OnOk result (full.new.items ≡ with_last full.old.items last.old.items) }
+    ensures begun { OnOk result (last.new.items ≡ file_head) }
+    ensures held { last.new.items ≡ [] → full.new.items ≡ full.old.items × (last.old.items ≡ []) }
+    ensures few { length full.new.items < 2 ^ 32 }
+    ensures large { result ≡ Err WriteFault.TooLarge → 2 ^ 32 ≤ length (with_last full.old.items last.old.items) }
+{
+    if full.len() + 1 == MOST_FILES && !last.is_empty() {
+        return Err(WriteFault::TooLarge);
+    }
+    let mut file = Vec::new(alloc);
+    file.extend_from_slice(&HEAD)?;
+    let before = std::mem::replace(last, file);
+    if !before.is_empty() {
+        full.push(Items::from_vec(before))?;
+    }
+    Ok(())
+}
+
+// Whether a file that has been begun has room for so many bytes more.
+fn has_room(limit: u32, file: &[u8], len: usize) -> bool
+    ensures { IsTrue result ↔ (0 < length file.now) × (length file.now + len ≤ limit) }
+{
+    let limit = limit as usize;
+    !file.is_empty() && file.len() <= limit && len <= limit - file.len()
+}
+
+// Begins a file where the last one has no room for a chunk of so many bytes, with its length and its checksum.
+fn make_room(
+    alloc: Global,
+    limit: u32,
+    full: &mut Vec<Items<u8>>,
+    last: &mut Vec<u8>,
+    len: usize,
+) -> Result<(), WriteFault>
+    requires few { length full.old.items < 2 ^ 32 }
+    requires held { last.old.items ≡ [] → full.old.items ≡ [] }
+    ensures placed { OnOk result ((body : Text) → length (chunk_element body) ≡ len →
+        with_chunk limit (with_last full.old.items last.old.items) body ≡ with_last full.new.items (last.new.items ++ chunk_element body)) }
+    ensures low { OnOk result (length last.new.items < 2 ^ 32) }
+    ensures few { length full.new.items < 2 ^ 32 }
+    ensures held { last.new.items ≡ [] → full.new.items ≡ [] }
+    ensures large { result ≡ Err WriteFault.TooLarge → (body : Text) → length (chunk_element body) ≡ len →
+        2 ^ 32 < length (with_chunk limit (with_last full.old.items last.old.items) body) }
+{
+    if has_room(limit, last, len) {
+        return Ok(());
+    }
+    begin_file(alloc, full, last)?;
+    Ok(())
+}
+
+// Puts a chunk behind the others. Its reference.
+pub(crate) fn add_chunk(
+    alloc: Global,
+    limit: u32,
+    full: &mut Vec<Items<u8>>,
+    last: &mut Vec<u8>,
+    data: &[u8],
+) -> Result<u64, WriteFault>
+    requires few { length full.old.items < 2 ^ 32 }
+    requires held { last.old.items ≡ [] → full.old.items ≡ [] }
+    requires short { length «data».now ≤ longest_chunk }
+    ensures files { OnOk result (with_last full.new.items last.new.items ≡ with_chunk limit (with_last full.old.items last.old.items) «data».now) }
+    ensures reference { IfOk result (λ reference. reference ≡ last_reference (with_chunk limit (with_last full.old.items last.old.items) «data».now) «data».now) }
+    ensures few { length full.new.items < 2 ^ 32 }
+    ensures held { last.new.items ≡ [] → full.new.items ≡ [] }
+    ensures large { result ≡ Err WriteFault.TooLarge → 2 ^ 32 < length (with_chunk limit (with_last full.old.items last.old.items) «data».now) }
+{
+    make_room(alloc, limit, full, last, chunk_len(data))?;
+    let file = full.len() as u64;
+    let offset = last.len() as u64;
+    put_chunk(last, data)?;
+    Ok(file * 0x1_0000_0000 + offset)
+}

@@ -1,0 +1,122 @@
+//! Chunk files, written row by row.
+
+ghost use Rattle.std.specs.Prelude.{◌≡◌, ◌≤◌, ◌<◌, ◌^◌, ◌++◌, ◌∷◌, [], List, All, map, Err, IfOk, OnOk, length};
+ghost use Rattle.std.specs.List.{flat_map};
+ghost use Rattle.block_text.specs.Sums.{Text};
+ghost use Rattle.block_files.specs.Files.{AreShort, all_texts, chunk_files, last_reference, longest_chunk, references, row_references, row_texts, texts, with_chunk};
+
+use crate::chunks::add_chunk;
+use block_text::WriteFault;
+use head_column::Chunk;
+use hw_bytes::Items;
+use std::alloc::{AllocError, Global};
+use std::marker::Model;
+
+/// Chunk files that are being written. Contracts see the files, and how long each may be. Where rows of chunks are added, the files
+/// are `chunk_files` of all their chunks so far.
+#[derive(Debug, Drop)]
+pub struct ChunkFiles {
+    limit: u32,
+    // The files that are full.
+    full: Vec<Items<u8>>,
+    // The last one, empty where none has been begun.
+    last: Vec<u8>,
+}
+
+impl Model for ChunkFiles {
+    ghost use Rattle.std.specs.Prelude.{◌≡◌, ◌<◌, ◌≤◌, ◌^◌, [], length};
+    ghost use Rattle.block_files.specs.Files.{Written, with_last};
+
+    ghost Value = { Written };
+
+    ghost view = { λ w. record { limit = w.limit; files = with_last w.full.items w.last.items } };
+
+    ghost invariant = { λ w. (length w.full.items < 2 ^ 32) × (w.last.items ≡ [] → w.full.items ≡ []) };
+}
+
+impl ChunkFiles {
+    /// No file yet.
+    pub fn new(alloc: Global, limit: u32) -> ChunkFiles
+        ensures limit { result.limit ≡ limit }
+        ensures none { result.files ≡ [] }
+    {
+        ChunkFiles {
+            limit,
+            full: Vec::new(alloc),
+            last: Vec::new(alloc),
+        }
+    }
+
+    // Puts a chunk behind the others. Its reference.
+    fn add(&mut self, alloc: Global, chunk: &Chunk) -> Result<u64, WriteFault>
+        requires { length chunk.now.text ≤ longest_chunk }
+        ensures limit { self.new.limit ≡ self.old.limit }
+        ensures files { OnOk result (self.new.files ≡ with_chunk self.old.limit self.old.files chunk.now.text) }
+        ensures reference { IfOk result (λ reference. reference ≡ last_reference (with_chunk self.old.limit self.old.files chunk.now.text) chunk.now.text) }
+        ensures large { result ≡ Err WriteFault.TooLarge → 2 ^ 32 < length (with_chunk self.old.limit self.old.files chunk.now.text) }
+    {
+        add_chunk(
+            alloc,
+            self.limit,
+            &mut self.full,
+            &mut self.last,
+            chunk.text.as_slice(),
+        )
+    }
+
+    /// Puts the chunks of a row behind those of the rows before it. Their references. After a fault some of them may have been added.
+    pub fn add_row(&mut self, alloc: Global, row: &[Chunk]) -> Result<Vec<u64>, WriteFault>
+        requires short { All (λ body. length body ≤ longest_chunk) (row_texts row.now) }
+        ensures limit { self.new.limit ≡ self.old.limit }
+        ensures files { (before : List (List Text)) → self.old.files ≡ chunk_files self.old.limit (flat_map (λ r. r) before) →
+            OnOk result (self.new.files ≡ chunk_files self.old.limit (flat_map (λ r. r) (before ++ row_texts row.now ∷ []))) }
+        ensures references { (before : List (List Text)) → self.old.files ≡ chunk_files self.old.limit (flat_map (λ r. r) before) →
+            IfOk result (λ found. found.items ≡ row_references self.old.limit before (row_texts row.now)) }
+        ensures count { IfOk result (λ found. length found.items ≡ length row.now) }
+        ensures large { (before : List (List Text)) → self.old.files ≡ chunk_files self.old.limit (flat_map (λ r. r) before) →
+            result ≡ Err WriteFault.TooLarge → 2 ^ 32 < length (chunk_files self.old.limit (flat_map (λ r. r) (before ++ row_texts row.now ∷ []))) }
+    {
+        let mut found = Vec::new(alloc);
+        for chunk in row {
+            found.push(self.add(alloc, chunk)?)?;
+        }
+        Ok(found)
+    }
+
+    /// The files.
+    pub fn into_files(self) -> Result<Vec<Items<u8>>, AllocError>
+        ensures files { IfOk result (λ files. files.items ≡ self.files) }
+        ensures few { IfOk result (λ files. length files.items ≤ 2 ^ 32) }
+    {
+        let ChunkFiles { mut full, last, .. } = self;
+        if !last.is_empty() {
+            full.push(Items::from_vec(last))?;
+        }
+        Ok(full)
+    }
+}
+
+/// The chunk files of the chunks of some rows, in the order of the rows, and for each row the references of its chunks.
+///
+/// A file begins with the magic `85BD40DD`, the version 1 and three zeros. A chunk there is the length of its data as a uvarint, the
+/// encoding `41`, the data, and the CRC-32C of the encoding and the data. A file is begun where the next chunk would make the last one
+/// longer than `limit` bytes. A reference is the file, counted from 0, times 2^32, and the offset of the chunk's length. No chunk gives
+/// no file.
+pub fn write_chunks(
+    alloc: Global,
+    rows: &[Items<Chunk>],
+    limit: u32,
+) -> Result<(Vec<Items<u8>>, Vec<Items<u64>>), WriteFault>
+    requires short { AreShort rows.now }
+    ensures files { IfOk result (λ written. written.0.items ≡ chunk_files limit (all_texts rows.now)) }
+    ensures references { IfOk result (λ written. written.1.items ≡ references limit (texts rows.now)) }
+    ensures few { IfOk result (λ written. length written.0.items ≤ 2 ^ 32) }
+    ensures large { result ≡ Err WriteFault.TooLarge → 2 ^ 32 < length (chunk_files limit (all_texts rows.now)) }
+{
+    let mut files = ChunkFiles::new(alloc, limit);
+    let mut found = Vec::new(alloc);
+    for row in rows {
+        found.push(Items::from_vec(files.add_row(alloc, row.as_slice())?))?;
+    }
+    Ok((files.into_files()?, found))
+}

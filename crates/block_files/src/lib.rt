@@ -1,0 +1,19 @@
+//! The parts of a block beside its index: chunk files, tombstones and meta.json, each as a text, and read again.
+#![tactic(auto)]
+
+mod chunks;
+mod fields;
+mod files;
+mod front;
+mod laws;
+mod meta;
+mod tombstones;
+mod ulid;
+
+pub use chunks::CHUNK_FILE_LIMIT;
+pub use files::{ChunkFiles, write_chunks};
+pub use front::chunk_at;
+pub use laws::{chunks_stand, one_chunk};
+pub use meta::{Meta, ulid_of, write_meta};
+pub use tombstones::{Tombstone, TombstonesFault, read_tombstones, write_tombstones};
+pub use ulid::{BadUlid, Ulid};

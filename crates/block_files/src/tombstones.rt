@@ -1,0 +1,144 @@
+//! Tombstones, as a text and read again.
+
+ghost use Rattle.std.specs.Prelude.{◌≡◌, ◌<◌, ◌++◌, List, All, length, Err, IfOk, IfSome, MatchOption, OnOk};
+ghost use Rattle.block_text.specs.Sums.{Text};
+ghost use Rattle.block_files.specs.declared.tombstones.Tombstone.{Tombstone as Entry};
+ghost use Rattle.block_files.specs.Tombstones.{IsFit, entries_text, entry_text, tombstones_text};
+
+use crate::fields::{front_uvarint, front_varint};
+use block_text::put_sum;
+use head_column::Run;
+use hw_bytes::{put_uvarint, put_varint};
+use std::alloc::{AllocError, AllocFailed, Global};
+
+/// A run of hidden times of a series.
+#[derive(Clone, Copy, Debug, PartialEq, Eq)]
+pub struct Tombstone {
+    /// The id of the series in the block's index.
+    pub series: u64,
+    pub run: Run,
+}
+
+/// Why bytes were not read as tombstones.
+#[derive(Clone, Copy, Debug, PartialEq, Eq)]
+pub enum TombstonesFault {
+    /// The bytes are not what `write_tombstones` writes.
+    BadTombstones,
+    /// Memory ran out.
+    Memory,
+}
+
+impl From<AllocError> for TombstonesFault {
+    ghost use Rattle.std.specs.Prelude.{◌≡◌};
+    ghost use Rattle.block_files.specs.declared.tombstones.TombstonesFault.TheVariants.{Memory};
+
+    ghost from_gives = { λ _ e. e ≡ Memory };
+
+    fn from(_error: AllocError) -> TombstonesFault {
+        TombstonesFault::Memory
+    }
+}
+
+impl<T: Drop> From<AllocFailed<T>> for TombstonesFault {
+    ghost use Rattle.std.specs.Prelude.{◌≡◌};
+    ghost use Rattle.block_files.specs.declared.tombstones.TombstonesFault.TheVariants.{Memory};
+
+    ghost from_gives = { λ _ e. e ≡ Memory };
+
+    fn from(_error: AllocFailed<T>) -> TombstonesFault {
+        TombstonesFault::Memory
+    }
+}
+
+// The magic, and the version.
+const HEAD: [u8; 5] = [0x01, 0x30, 0xBA, 0x30, 1];
+
+// How many bytes a checksum has.
+const SUM_LEN: usize = 4;
+
+// Puts an entry behind the bytes.
+fn put_entry(bytes: &mut Vec<u8>, tombstone: &Tombstone) -> Result<(), AllocError>
+    ensures { OnOk result (bytes.new.items ≡ bytes.old.items ++ entry_text tombstone.now) }
+{
+    put_uvarint(bytes, tombstone.series)?;
+    put_varint(bytes, tombstone.run.min_time)?;
+    put_varint(bytes, tombstone.run.max_time)
+}
+
+// The entries, one after another.
+fn write_entries(alloc: Global, tombstones: &[Tombstone]) -> Result<Vec<u8>, AllocError>
+    ensures { IfOk result (λ text. text.items ≡ entries_text tombstones.now) }
+{
+    let mut entries = Vec::new(alloc);
+    for tombstone in tombstones {
+        put_entry(&mut entries, tombstone)?;
+    }
+    Ok(entries)
+}
+
+/// The text of these tombstones: the magic `0130BA30`, the version 1, an entry for each (the id of the series as a uvarint, the first
+/// and the last hidden time as varints), and the CRC-32C of all entries.
+#[tactic(auto, unfolding(crate::specs::Tombstones::tombstones_text))]
+pub fn write_tombstones(alloc: Global, tombstones: &[Tombstone]) -> Result<Vec<u8>, AllocError>
+    ensures { IfOk result (λ text. text.items ≡ tombstones_text tombstones.now) }
+{
+    let entries = write_entries(alloc, tombstones)?;
+    let mut text = Vec::new(alloc);
+    text.extend_from_slice(&HEAD)?;
+    text.extend_from_slice(&entries)?;
+    put_sum(&mut text, &entries)?;
+    Ok(text)
+}
+
+// The entry at the front, and the bytes behind it.
+fn front_entry(bytes: &[u8]) -> Option<(Tombstone, &[u8])>
+    ensures again { (t : Entry) (rest : Text) → IsFit t → bytes.now ≡ entry_text t ++ rest → MatchOption result ⊥ (λ found. (found.0 ≡ t) × (found.1.now ≡ rest)) }
+    ensures fit { IfSome result (λ found. IsFit found.0) }
+    ensures shorter { IfSome result (λ found. length found.1.now < length bytes.now) }
+{
+    let (series, rest) = front_uvarint(bytes)?;
+    let (min_time, rest) = front_varint(rest)?;
+    let (max_time, rest) = front_varint(rest)?;
+    let run = Run { min_time, max_time };
+    Some((Tombstone { series, run }, rest))
+}
+
+// The entries of which these bytes are the text, if they are one.
+fn read_entries(alloc: Global, bytes: &[u8]) -> Result<Vec<Tombstone>, TombstonesFault>
+    ensures found { IfOk result (λ found. (tombstones : List Entry) → All IsFit tombstones → bytes.now ≡ entries_text tombstones → found.items ≡ tombstones) }
+    ensures fit { IfOk result (λ found. All IsFit found.items) }
+    ensures bad { result ≡ Err TombstonesFault.BadTombstones → (tombstones : List Entry) → All IsFit tombstones → bytes.now ≡ entries_text tombstones → ⊥ }
+{
+    let mut tombstones = Vec::new(alloc);
+    let mut rest = bytes;
+    while !rest.is_empty() {
+        let Some((tombstone, others)) = front_entry(rest) else {
+            return Err(TombstonesFault::BadTombstones);
+        };
+        tombstones.push(tombstone)?;
+        rest = others;
+    }
+    Ok(tombstones)
+}
+
+/// The tombstones of which the bytes are the text. `BadTombstones` where the bytes are not what `write_tombstones` writes for any:
+/// another magic, version or checksum, an entry that ends too soon, a longer spelling of a number.
+pub fn read_tombstones(alloc: Global, bytes: &[u8]) -> Result<Vec<Tombstone>, TombstonesFault>
+    ensures found { IfOk result (λ tombstones. bytes.now ≡ tombstones_text tombstones.items) }
+    ensures fit { IfOk result (λ tombstones. All IsFit tombstones.items) }
+    ensures only { (tombstones : List Entry) → All IsFit tombstones → bytes.now ≡ tombstones_text tombstones → IfOk result (λ read. read.items ≡ tombstones) }
+    ensures bad { result ≡ Err TombstonesFault.BadTombstones →
+        (tombstones : List Entry) → All IsFit tombstones → bytes.now ≡ tombstones_text tombstones → ⊥ }
+{
+    if bytes.len() < HEAD.len() + SUM_LEN {
+        return Err(TombstonesFault::BadTombstones);
+    }
+    let (_, body) = bytes.split_at(HEAD.len());
+    let (entries, _) = body.split_at(body.len() - SUM_LEN);
+    let tombstones = read_entries(alloc, entries)?;
+    let again = write_tombstones(alloc, &tombstones)?;
+    if again.as_slice() != bytes {
+        return Err(TombstonesFault::BadTombstones);
+    }
+    Ok(tombstones)
+}

@@ -1,0 +1,28 @@
+-- What lent labels show.
+use Rattle.std.specs.Prelude.{ℕ}
+use Rattle.std.specs.Ordering.{nat_cmp, ordering_then}
+use Rattle.std.specs.declared.cmp.Ordering.{Ordering}
+use Rattle.wal_record.specs.declared.labels.Label.{Label}
+use Rattle.wal_record.specs.Labels.{compare_label}
+use Rattle.block_index.specs.declared.ordering.LentLabel.{LentLabel}
+use Rattle.block_index.specs.declared.ordering.RowLabel.{RowLabel}
+use Rattle.block_index.specs.declared.groups.NamePlace.{NamePlace}
+use Rattle.block_index.specs.declared.groups.LabelPlace.{LabelPlace}
+use Rattle.block_index.specs.Layout.{Text}
+
+abbrev pub label_of : LentLabel → Label
+label_of l = record { name = l.name.now; value = l.value.now }
+
+-- a label of a row, and the row's place
+abbrev pub row_label_of : RowLabel → Label × ℕ
+row_label_of l = (label_of l.label, l.row)
+
+-- labels first, and then the places of rows
+abbrev pub compare_row_label : Label × ℕ → Label × ℕ → Ordering
+compare_row_label a b = ordering_then (compare_label a.0 b.0) (nat_cmp a.1 b.1)
+
+abbrev pub name_place_of : NamePlace → Text × ℕ
+name_place_of n = (n.name.now, n.place)
+
+abbrev pub label_place_of : LabelPlace → Label × ℕ
+label_place_of l = (label_of l.label, l.place)

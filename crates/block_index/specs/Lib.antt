@@ -1,0 +1,12 @@
+pub mod Sets
+pub mod Groups
+pub mod Layout
+pub mod Index
+pub mod Rows
+pub mod Gives
+pub mod Fields
+pub mod Reading
+pub mod Stored
+pub mod Lent
+pub mod Posted
+pub mod Tests

@@ -1,0 +1,35 @@
+-- Ascending lists without repeats.
+use Rattle.std.specs.Prelude.{◌≡◌, ℕ, ◌+◌, List, [], ◌∷◌, if◌then◌else◌}
+use Rattle.std.specs.Ordering.{nat_cmp, is_eq, is_lt}
+use Rattle.std.specs.Cmp.Lexicographic.{slice_cmp}
+use Rattle.std.specs.declared.cmp.Ordering.{Ordering}
+use Rattle.std.specs.declared.cmp.Ordering.TheVariants.{Less}
+
+module _ {A : Type 0} (cmp : A → A → Ordering) where
+  -- the ascending list with x
+  abbrev pub with_one : A → List A → List A
+  with_one x [] = x ∷ []
+  with_one x (y ∷ ys) = if is_lt (cmp x y) then x ∷ y ∷ ys else (if is_eq (cmp x y) then y ∷ ys else y ∷ with_one x ys)
+
+  -- the elements, ascending and without repeats
+  abbrev pub ascending : List A → List A
+  ascending [] = []
+  ascending (x ∷ xs) = with_one x (ascending xs)
+
+  -- it comes before each of these
+  abbrev pub IsBefore : A → List A → Type 0
+  IsBefore x [] = Unit {0}
+  IsBefore x (y ∷ ys) = (cmp x y ≡ Less) × IsBefore x ys
+
+  -- each comes before all that follow it
+  abbrev pub IsAscending : List A → Type 0
+  IsAscending [] = Unit {0}
+  IsAscending (x ∷ xs) = IsBefore x xs × IsAscending xs
+
+  -- how many stand before x
+  abbrev pub rank : A → List A → ℕ
+  rank x [] = 0
+  rank x (y ∷ ys) = if is_lt (cmp y x) then rank x ys + 1 else rank x ys
+
+abbrev pub text_cmp : List ℕ → List ℕ → Ordering
+text_cmp a b = slice_cmp nat_cmp a b

@@ -1,0 +1,40 @@
+//! What rows name.
+
+ghost use Rattle.std.specs.Prelude.{◌≡◌, ◌<◌, All, length, map, IfOk};
+ghost use Rattle.block_index.specs.Gives.{nows};
+ghost use Rattle.block_index.specs.Index.{labels_from, pairs as pairs_of, symbols as symbols_of};
+ghost use Rattle.block_index.specs.Lent.{compare_row_label, label_of, row_label_of};
+ghost use Rattle.block_index.specs.Sets.{ascending};
+
+use crate::gathering::{labels_alone, row_labels, texts_of};
+use crate::ordering::{LentLabel, RowLabel, distinct_labels, distinct_texts, sorted_row_labels};
+use crate::row::IndexRow;
+use std::alloc::{AllocError, Global};
+
+/// The labels of some rows and the texts of these, lent, each list in its order.
+#[derive(Drop)]
+pub(crate) struct Contents<'a> {
+    /// The labels, each with the place of a row that has it.
+    pub(crate) labels: Vec<RowLabel<'a>>,
+    /// The labels without repeats.
+    pub(crate) pairs: Vec<LentLabel<'a>>,
+    /// The names and the values without repeats.
+    pub(crate) symbols: Vec<&'a [u8]>,
+}
+
+// What the rows name.
+pub(crate) fn contents_of(alloc: Global, rows: &[IndexRow]) -> Result<Contents<'_>, AllocError>
+    ensures labels { IfOk result (λ contents. map row_label_of contents.labels.items ≡ ascending compare_row_label (labels_from 0 rows.now)) }
+    ensures within { IfOk result (λ contents. All (λ l. l.row < length rows.now) contents.labels.items) }
+    ensures pairs { IfOk result (λ contents. map label_of contents.pairs.items ≡ pairs_of rows.now) }
+    ensures symbols { IfOk result (λ contents. nows contents.symbols.items ≡ symbols_of rows.now) }
+{
+    let labels = sorted_row_labels(row_labels(alloc, rows)?);
+    let pairs = distinct_labels(labels_alone(alloc, labels.as_slice())?);
+    let symbols = distinct_texts(texts_of(alloc, pairs.as_slice())?);
+    Ok(Contents {
+        labels,
+        pairs,
+        symbols,
+    })
+}

@@ -1,0 +1,178 @@
+//! Numbers and texts at the front of an element's contents.
+
+ghost use Rattle.std.specs.Prelude.{◌≡◌, ◌≤◌, map, length, IfSome};
+ghost use Rattle.std.specs.Option.{option_map};
+ghost use Rattle.hw_bytes.specs.Reading.{uvarint_at as uvarint_in_front, varint_at as varint_in_front, text_at as text_in_front};
+ghost use Rattle.block_index.specs.Gives.{Gives};
+ghost use Rattle.block_index.specs.Fields.{four as four_in, uvarint_field, varint_field, text_field, reference_field, pair_field, later as later_in, first_chunk as first_chunk_in, next_chunk as next_chunk_in, next_chunks as next_chunks_in, chunks_field, marked as marked_in, fixed as fixed_in, four_below as four_below_in};
+
+use crate::fault::ReadFault;
+use crate::row::ChunkMeta;
+use hw_bytes::{be32_at, text_at, uvarint_at, varint_at};
+
+#[tactic(auto, unfolding(crate::specs::Fields::four))]
+pub(crate) fn four(bytes: &[u8]) -> Result<(u32, &[u8]), ReadFault>
+    ensures { Gives (λ x. (x.0, x.1.now)) result (four_in bytes.now) }
+{
+    let Some(number) = be32_at(bytes) else {
+        return Err(ReadFault::BadSection);
+    };
+    let (_, rest) = bytes.split_at(4);
+    Ok((number, rest))
+}
+
+// As `uvarint_at`, said by a function.
+pub(crate) fn front_uvarint(bytes: &[u8]) -> Option<(u64, usize)>
+    ensures exact { result ≡ uvarint_in_front bytes.now }
+    ensures within { IfSome result (λ found. found.1 ≤ length bytes.now) }
+{
+    uvarint_at(bytes)
+}
+
+// As `varint_at`.
+fn front_varint(bytes: &[u8]) -> Option<(i64, usize)>
+    ensures exact { result ≡ varint_in_front bytes.now }
+    ensures within { IfSome result (λ found. found.1 ≤ length bytes.now) }
+{
+    varint_at(bytes)
+}
+
+// As `text_at`.
+fn front_text(bytes: &[u8]) -> Option<(&[u8], usize)>
+    ensures exact { option_map (λ found. (found.0.now, found.1)) result ≡ text_in_front bytes.now }
+    ensures within { IfSome result (λ found. found.1 ≤ length bytes.now) }
+{
+    text_at(bytes)
+}
+
+#[tactic(auto, unfolding(crate::specs::Fields::uvarint_field))]
+pub(crate) fn uvarint(bytes: &[u8]) -> Result<(u64, &[u8]), ReadFault>
+    ensures { Gives (λ x. (x.0, x.1.now)) result (uvarint_field bytes.now) }
+{
+    let Some((number, len)) = front_uvarint(bytes) else {
+        return Err(ReadFault::BadSection);
+    };
+    let (_, rest) = bytes.split_at(len);
+    Ok((number, rest))
+}
+
+#[tactic(auto, unfolding(crate::specs::Fields::varint_field))]
+pub(crate) fn varint(bytes: &[u8]) -> Result<(i64, &[u8]), ReadFault>
+    ensures { Gives (λ x. (x.0, x.1.now)) result (varint_field bytes.now) }
+{
+    let Some((number, len)) = front_varint(bytes) else {
+        return Err(ReadFault::BadSection);
+    };
+    let (_, rest) = bytes.split_at(len);
+    Ok((number, rest))
+}
+
+#[tactic(auto, unfolding(crate::specs::Fields::text_field))]
+pub(crate) fn text(bytes: &[u8]) -> Result<(&[u8], &[u8]), ReadFault>
+    ensures { Gives (λ x. (x.0.now, x.1.now)) result (text_field bytes.now) }
+{
+    let Some((text, len)) = front_text(bytes) else {
+        return Err(ReadFault::BadSection);
+    };
+    let (_, rest) = bytes.split_at(len);
+    Ok((text, rest))
+}
+
+#[tactic(auto, unfolding(crate::specs::Fields::reference_field))]
+pub(crate) fn reference(bytes: &[u8], limit: u64) -> Result<(u64, &[u8]), ReadFault>
+    ensures { Gives (λ x. (x.0, x.1.now)) result (reference_field limit bytes.now) }
+{
+    let (number, rest) = uvarint(bytes)?;
+    if number >= limit {
+        return Err(ReadFault::BadSection);
+    }
+    Ok((number, rest))
+}
+
+#[tactic(auto, unfolding(crate::specs::Fields::pair_field))]
+pub(crate) fn pair(bytes: &[u8], limit: u64) -> Result<((u64, u64), &[u8]), ReadFault>
+    ensures { Gives (λ x. (x.0, x.1.now)) result (pair_field limit bytes.now) }
+{
+    let (name, rest) = reference(bytes, limit)?;
+    let (value, rest) = reference(rest, limit)?;
+    Ok(((name, value), rest))
+}
+
+fn later(time: i64, span: u64) -> Result<i64, ReadFault>
+    ensures { Gives (λ t. t) result (later_in time span) }
+{
+    match time.checked_add_unsigned(span) {
+        Some(sum) => Ok(sum),
+        None => Err(ReadFault::BadSection),
+    }
+}
+
+#[tactic(auto, unfolding(crate::specs::Fields::first_chunk))]
+pub(crate) fn first_chunk(bytes: &[u8]) -> Result<(ChunkMeta, &[u8]), ReadFault>
+    ensures { Gives (λ x. (x.0, x.1.now)) result (first_chunk_in bytes.now) }
+{
+    let (min_time, rest) = varint(bytes)?;
+    let (span, rest) = uvarint(rest)?;
+    let max_time = later(min_time, span)?;
+    let (reference, rest) = uvarint(rest)?;
+    let chunk = ChunkMeta {
+        min_time,
+        max_time,
+        reference,
+    };
+    Ok((chunk, rest))
+}
+
+#[tactic(auto, unfolding(crate::specs::Fields::next_chunk))]
+pub(crate) fn next_chunk(last: ChunkMeta, bytes: &[u8]) -> Result<(ChunkMeta, &[u8]), ReadFault>
+    ensures { Gives (λ x. (x.0, x.1.now)) result (next_chunk_in last bytes.now) }
+{
+    let (gap, rest) = uvarint(bytes)?;
+    let min_time = later(last.max_time, gap)?;
+    let (span, rest) = uvarint(rest)?;
+    let max_time = later(min_time, span)?;
+    let (step, rest) = varint(rest)?;
+    let chunk = ChunkMeta {
+        min_time,
+        max_time,
+        reference: last.reference.wrapping_add(step.cast_unsigned()),
+    };
+    Ok((chunk, rest))
+}
+
+#[tactic(auto, unfolding(crate::specs::Fields::fixed))]
+pub(crate) fn fixed(bytes: &[u8], value: u32) -> Result<&[u8], ReadFault>
+    ensures { Gives (λ x. x.now) result (fixed_in value bytes.now) }
+{
+    let (number, rest) = four(bytes)?;
+    if number != value {
+        return Err(ReadFault::BadSection);
+    }
+    Ok(rest)
+}
+
+#[tactic(auto, unfolding(crate::specs::Fields::four_below))]
+pub(crate) fn four_below(bytes: &[u8], limit: u64) -> Result<(u32, &[u8]), ReadFault>
+    ensures { Gives (λ x. (x.0, x.1.now)) result (four_below_in limit bytes.now) }
+{
+    let (number, rest) = four(bytes)?;
+    if u64::from(number) >= limit {
+        return Err(ReadFault::BadSection);
+    }
+    Ok((number, rest))
+}
+
+#[tactic(auto, unfolding(crate::specs::Fields::marked))]
+pub(crate) fn marked(bytes: &[u8], mark: u8) -> Result<&[u8], ReadFault>
+    ensures { Gives (λ x. x.now) result (marked_in mark bytes.now) }
+{
+    match bytes {
+        [] => Err(ReadFault::BadSection),
+        [first, rest @ ..] => {
+            if *first != mark {
+                return Err(ReadFault::BadSection);
+            }
+            Ok(rest)
+        }
+    }
+}

@@ -1,0 +1,51 @@
+//! Texts and labels in order, without repeats.
+
+ghost use Rattle.std.specs.Prelude.{◌≡◌, map, IfOk};
+ghost use Rattle.block_index.specs.Gives.{nows};
+ghost use Rattle.block_index.specs.Lent.{label_of, row_label_of, compare_row_label};
+ghost use Rattle.block_index.specs.Sets.{ascending, text_cmp};
+ghost use Rattle.wal_record.specs.Labels.{compare_label};
+
+/// A label, lent.
+#[derive(Clone, Copy, PartialEq, Eq, PartialOrd, Ord)]
+pub(crate) struct LentLabel<'a> {
+    pub(crate) name: &'a [u8],
+    pub(crate) value: &'a [u8],
+}
+
+/// A label of a row, lent, and the row's place.
+#[derive(Clone, Copy, PartialEq, Eq, PartialOrd, Ord)]
+pub(crate) struct RowLabel<'a> {
+    pub(crate) label: LentLabel<'a>,
+    pub(crate) row: usize,
+}
+
+// The texts in their order, without repeats.
+pub(crate) fn distinct_texts<'a>(texts: Vec<&'a [u8]>) -> Vec<&'a [u8]>
+    ensures { nows result.items ≡ ascending text_cmp (nows texts.entry.items) }
+{
+    let mut texts = texts;
+    texts.sort_unstable();
+    texts.dedup();
+    texts
+}
+
+// The labels in their order, without repeats.
+pub(crate) fn distinct_labels<'a>(labels: Vec<LentLabel<'a>>) -> Vec<LentLabel<'a>>
+    ensures { map label_of result.items ≡ ascending compare_label (map label_of labels.entry.items) }
+{
+    let mut labels = labels;
+    labels.sort_unstable();
+    labels.dedup();
+    labels
+}
+
+// The labels of rows in their order, and for each in the order of rows.
+pub(crate) fn sorted_row_labels<'a>(labels: Vec<RowLabel<'a>>) -> Vec<RowLabel<'a>>
+    ensures { map row_label_of result.items ≡ ascending compare_row_label (map row_label_of labels.entry.items) }
+{
+    let mut labels = labels;
+    labels.sort_unstable();
+    labels.dedup();
+    labels
+}

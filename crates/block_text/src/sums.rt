@@ -1,0 +1,41 @@
+//! Checksums behind texts.
+
+ghost use Rattle.std.specs.Prelude.{◌≡◌, ◌↔◌, ◌≤◌, ◌^◌, ◌++◌, length, Err, IfOk, OnOk, OnErr};
+ghost use Rattle.block_text.specs.Sums.{sum_text, sums};
+
+use crate::fault::WriteFault;
+use hw_bytes::{be32_at, crc32c, put_be32};
+use std::alloc::AllocError;
+
+/// The number, where four bytes hold it; else it is too large.
+pub fn four_bytes_of(number: usize) -> Result<u32, WriteFault>
+    ensures same { IfOk result (λ m. m ≡ number) }
+    ensures large { result ≡ Err WriteFault.TooLarge ↔ 2 ^ 32 ≤ number }
+    ensures fault { result ≡ Err WriteFault.Memory → ⊥ }
+{
+    if number > 0xFFFF_FFFF {
+        return Err(WriteFault::TooLarge);
+    }
+    Ok(number as u32)
+}
+
+/// Puts the checksum of a text behind some bytes: its CRC-32C, big-endian in four bytes.
+#[tactic(auto, unfolding(crate::specs::Sums::sum_text))]
+pub fn put_sum(bytes: &mut Vec<u8>, text: &[u8]) -> Result<(), AllocError>
+    ensures put { OnOk result (bytes.new.items ≡ bytes.old.items ++ sum_text text.now) }
+    ensures refused { OnErr result (bytes.new.items ≡ bytes.old.items) }
+{
+    put_be32(bytes, crc32c(text))
+}
+
+/// Whether the first `len` bytes are followed by their checksum.
+pub fn is_summed(bytes: &[u8], len: usize) -> bool
+    requires { len ≤ length bytes.now }
+    ensures { result ≡ sums len bytes.now }
+{
+    let (front, rest) = bytes.split_at(len);
+    match be32_at(rest) {
+        None => false,
+        Some(sum) => sum == crc32c(front),
+    }
+}
