@@ -2,7 +2,15 @@
 #![tactic(auto)]
 
 #[cfg(test)]
+mod block_bytes;
+#[cfg(test)]
+mod block_runs;
+#[cfg(test)]
+mod cut_runs;
+#[cfg(test)]
 mod directories;
+#[cfg(test)]
+mod folders;
 #[cfg(test)]
 mod fragments;
 #[cfg(test)]

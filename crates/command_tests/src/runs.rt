@@ -1,10 +1,12 @@
 //! Runs of a command, held against what it is to leave.
 
 use crate::shelf::Shelf;
-use prom_commands::{Answer, Request, StoreFault, carry_out};
+use block_commands::{BlockRequest, carry_out_block};
+use prom_commands::{Answer, Request, Store, StoreFault, carry_out};
 use std::alloc::{AllocError, Global};
 use std::fmt::Debug;
 use std::process::Abort;
+use std::thread::Threads;
 
 pub const REPLAY: Request<'static> = Request::Replay { dir: "log" };
 
@@ -112,6 +114,27 @@ pub fn assert_run<R: Abort + AllocGlobal>(
 ) -> Result<(), AllocError> {
     let answer = carry_out(rt.alloc(), shelf, request);
     assert_answer(rt, case, &answer, want)
+}
+
+/// Carries out a request about blocks, which is to leave this status, print this and say this.
+pub fn assert_block_run<R: Abort + Threads + Sync + AllocGlobal>(
+    rt: &R,
+    case: &str,
+    shelf: &mut Shelf,
+    request: BlockRequest<'_>,
+    want: (u8, &str, &str),
+) -> Result<(), AllocError> {
+    let answer = carry_out_block(rt, rt.alloc(), shelf, request);
+    assert_answer(rt, case, &answer, want)
+}
+
+/// The names in a directory, each behind a space.
+pub fn names<S: Store>(alloc: Global, store: &mut S, dir: &str) -> Result<String, StoreFault> {
+    let mut text = String::new(alloc);
+    for name in store.read_dir(dir)? {
+        write!(text, " {name}")?;
+    }
+    Ok(text)
 }
 
 /// Carries out a request over the files of a directory.

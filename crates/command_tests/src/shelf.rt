@@ -139,6 +139,15 @@ impl Shelf {
         open(&self.contents)?.add(alloc, path, Content::File(bytes))
     }
 
+    /// Takes a file away, or a directory with all that is in it, with no call counted.
+    pub fn take_away(&mut self, path: &str) -> Result<(), StoreFault> {
+        let mut contents = open(&self.contents)?;
+        contents
+            .entries
+            .retain(|entry| rest_of(entry.path.as_str(), path).is_none());
+        Ok(())
+    }
+
     /// Has the call of this number fail, 1 being the first.
     pub fn fail(&mut self, call: u64, fault: StoreFault) -> Result<(), StoreFault> {
         open(&self.contents)?.failure = Some(Failure { call, fault });
@@ -214,6 +223,18 @@ impl Store for Shelf {
             path: String::from_str(self.alloc, path)?,
             contents: self.contents.clone()?,
         })
+    }
+
+    fn sync_file(&mut self, _writer: &mut ShelfWriter) -> Result<(), StoreFault> {
+        call(&self.contents)?;
+        Ok(())
+    }
+
+    fn sync_dir(&mut self, path: &str) -> Result<(), StoreFault> {
+        if !call(&self.contents)?.is_directory(path) {
+            return Err(StoreFault::Refused);
+        }
+        Ok(())
     }
 
     fn create_dir(&mut self, path: &str) -> Result<(), StoreFault> {

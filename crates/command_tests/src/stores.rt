@@ -1,6 +1,6 @@
 //! Each call of both stores.
 
-use crate::runs::same;
+use crate::runs::{names, same};
 use crate::shelf::Shelf;
 use prom_commands::{Disk, Store, StoreFault, read_whole};
 use std::alloc::Global;
@@ -20,17 +20,9 @@ enum Call {
     Read(&'static str),
     CreateNew(&'static str),
     CreateDir(&'static str),
+    SyncDir(&'static str),
     Rename(&'static str, &'static str),
     RemoveFile(&'static str),
-}
-
-// The names in a directory, each behind a space.
-fn names<S: Store>(alloc: Global, store: &mut S, path: &str) -> Result<String, StoreFault> {
-    let mut text = String::new(alloc);
-    for name in store.read_dir(path)? {
-        write!(text, " {name}")?;
-    }
-    Ok(text)
 }
 
 // The bytes of a file, as letters.
@@ -43,7 +35,9 @@ fn letters<S: Store>(alloc: Global, store: &mut S, path: &str) -> Result<String,
 }
 
 fn create<S: Store>(store: &mut S, path: &str) -> Result<(), StoreFault> {
-    Ok(store.create_new(path)?.write_all(b"bytes")?)
+    let mut writer = store.create_new(path)?;
+    writer.write_all(b"bytes")?;
+    store.sync_file(&mut writer)
 }
 
 fn below(alloc: Global, dir: &str, name: &str) -> Result<String, StoreFault> {
@@ -62,6 +56,7 @@ fn make<S: Store>(
         Call::Read(name) => return letters(alloc, store, &below(alloc, dir, name)?),
         Call::CreateNew(name) => create(store, &below(alloc, dir, name)?)?,
         Call::CreateDir(name) => store.create_dir(&below(alloc, dir, name)?)?,
+        Call::SyncDir(name) => store.sync_dir(&below(alloc, dir, name)?)?,
         Call::RemoveFile(name) => store.remove_file(&below(alloc, dir, name)?)?,
         Call::Rename(name, to) => {
             let to = below(alloc, dir, to)?;
@@ -72,16 +67,19 @@ fn make<S: Store>(
 }
 
 // Calls one after another, and what each gives.
-const CALLS: [(Call, Result<&str, StoreFault>); 17] = [
+const CALLS: [(Call, Result<&str, StoreFault>); 20] = [
     (Call::ReadDir(""), REFUSED),
+    (Call::SyncDir(""), REFUSED),
     (Call::CreateDir(""), DONE),
     (Call::CreateNew("/1/a.tmp"), REFUSED),
     (Call::CreateDir("/1"), DONE),
     (Call::CreateDir("/1"), REFUSED),
+    (Call::SyncDir("/1"), DONE),
     (Call::CreateNew("/1/a.tmp"), DONE),
     (Call::CreateNew("/1/a.tmp"), REFUSED),
     (Call::Rename("/1/a.tmp", "/1/a"), DONE),
     (Call::Rename("/1", "/2"), DONE),
+    (Call::SyncDir("/1"), REFUSED),
     (Call::Read("/1/a"), REFUSED),
     (Call::Read("/2"), REFUSED),
     (Call::Read("/2/a"), Ok("bytes")),

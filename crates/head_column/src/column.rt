@@ -1,6 +1,6 @@
 //! One series, built item by item.
 
-ghost use Rattle.std.specs.Prelude.{◌≡◌, ◌+◌, ◌<◌, ◌≤◌, ◌∷◌, ◌++◌, [], ℕ, List, IfOk, IsOk, OnErr, OnOk, filter, length};
+ghost use Rattle.std.specs.Prelude.{◌≡◌, ◌+◌, ◌<◌, ◌≤◌, ◌∷◌, ◌++◌, [], ℕ, All, List, IfOk, IsOk, OnErr, OnOk, filter, length};
 ghost use Rattle.head_column.specs.declared.items.Item.{Item as AnItem};
 ghost use Rattle.head_column.specs.declared.items.Outcome.TheVariants.{Stale, EmptyStone};
 ghost use Rattle.head_column.specs.Histories.{IsHistoryOf, history_after, history_outcome, latest, no_history};
@@ -8,7 +8,7 @@ ghost use Rattle.head_column.specs.Items.{outcome_of};
 ghost use Rattle.head_column.specs.Runs.{AreApart};
 ghost use Rattle.head_column.specs.Samples.{Rises};
 ghost use Rattle.head_column.specs.Hours.{is_in_hour};
-ghost use Rattle.head_column.specs.Chunks.{chunks_of};
+ghost use Rattle.head_column.specs.Chunks.{IsFit, chunks_of};
 
 use crate::cutting::cut_chunks;
 use crate::runs::merge;
@@ -17,6 +17,17 @@ use crate::{Chunk, Hour, Item, Outcome, Run, Sample};
 use head_deal::Builder;
 use std::alloc::{AllocError, Global};
 use std::marker::Model;
+
+// The same sample: its numbers have 64 bits, as a proof learns where they are read.
+fn fit_copy(sample: &Sample) -> Sample
+    ensures same { result ≡ sample.now }
+    ensures fit { IsFit result }
+{
+    Sample {
+        time: sample.time,
+        value: sample.value,
+    }
+}
 
 /// The accepted samples of one series, and the runs of its hidden times. Contracts see its history, and beside it a number,
 /// `spare`: so many items it takes for certain without more memory.
@@ -37,8 +48,9 @@ impl Drop for Column {
 }
 
 impl Model for Column {
-    ghost use Rattle.std.specs.Prelude.{min, ◌-◌, vec_len};
+    ghost use Rattle.std.specs.Prelude.{All, min, ◌-◌, vec_len};
     ghost use Rattle.std.specs.Vec.{vec_capacity};
+    ghost use Rattle.head_column.specs.Chunks.{IsFit};
     ghost use Rattle.head_column.specs.Histories.{ColumnValue};
     ghost use Rattle.head_column.specs.Runs.{AreApart};
     ghost use Rattle.head_column.specs.Samples.{Rises};
@@ -50,7 +62,7 @@ impl Model for Column {
       spare = min (vec_capacity c.samples - vec_len c.samples) (vec_capacity c.hidden - vec_len c.hidden);
     } };
 
-    ghost invariant = { λ c. Rises c.samples.items × AreApart c.hidden.items };
+    ghost invariant = { λ c. Rises c.samples.items × AreApart c.hidden.items × All IsFit c.samples.items };
 }
 
 impl Column {
@@ -95,9 +107,13 @@ impl Column {
         Vec::from_slice(*self.samples.allocator(), self.samples_slice())
     }
 
-    /// The accepted samples of an hour in chunks, cut by 120 from the first one in it, the last chunk with fewer.
+    /// The accepted samples of an hour in chunks, cut by 120 from the first one in it, the last chunk with fewer. By the last three
+    /// clauses a caller learns what holds of every column.
     pub fn chunks_in(&self, hour: Hour) -> Result<Vec<Chunk>, AllocError>
-        ensures { IfOk result (λ chunks. chunks.items ≡ chunks_of (filter (λ s. is_in_hour hour s.time) self.now.history.samples)) }
+        ensures chunks { IfOk result (λ chunks. chunks.items ≡ chunks_of (filter (λ s. is_in_hour hour s.time) self.now.history.samples)) }
+        ensures rises { Rises self.now.history.samples }
+        ensures fit { All IsFit self.now.history.samples }
+        ensures apart { AreApart self.now.history.hidden }
     {
         cut_chunks(*self.samples.allocator(), self.samples_slice(), hour)
     }
@@ -136,7 +152,7 @@ impl Column {
                 if has_reached(&self.samples, sample.time) {
                     return Ok(Outcome::Stale);
                 }
-                self.samples.push(*sample)?;
+                self.samples.push(fit_copy(sample))?;
                 Ok(Outcome::Accepted)
             }
             Item::Stone(run) => {

@@ -2,7 +2,7 @@
 
 use crate::store::{Store, StoreFault};
 use std::alloc::Global;
-use std::fs::{DirEntry, File};
+use std::fs::{DirEntry, File, OpenFile};
 use std::io::{ErrorKind, Read};
 use std::rt::Files;
 use std::{fs, io};
@@ -77,6 +77,15 @@ impl<R: Files + AllocGlobal + Clone + Drop> Store for Disk<'_, R> {
 
     fn create_new(&mut self, path: &str) -> Result<R::File, StoreFault> {
         Ok(File::create_new(self.rt, path)?)
+    }
+
+    fn sync_file(&mut self, writer: &mut R::File) -> Result<(), StoreFault> {
+        Ok(writer.sync_all()?)
+    }
+
+    // A directory is opened as a file is, to be read.
+    fn sync_dir(&mut self, path: &str) -> Result<(), StoreFault> {
+        Ok(File::open(self.rt, path)?.sync_all()?)
     }
 
     fn create_dir(&mut self, path: &str) -> Result<(), StoreFault> {

@@ -8,6 +8,7 @@ ghost use Rattle.prom_commands.specs.declared.fault.Fault.TheVariants.{OutOfMemo
 
 use crate::report::DamageLine;
 use crate::store::StoreFault;
+use block_index::ReadFault;
 use head_core::ReplayFault;
 use std::alloc::{AllocError, AllocFailed, Global};
 use std::process::ExitCode;
@@ -18,7 +19,8 @@ use wal_log::{InputFault, InputRefused, PlanFault};
 #[derive(Clone, Copy, Debug, PartialEq, Eq)]
 pub enum Status {
     Done = 0,
-    /// The log is damaged. What stands before the damage was printed.
+    /// The log is damaged, or the block is. Of a log, what stands before the damage was printed, but where a block was to be made
+    /// of it.
     Damaged = 1,
     /// The arguments are wrong. Nothing was read.
     Usage = 2,
@@ -39,15 +41,40 @@ pub enum Fault {
     /// The option `--pair` is no label as it is printed.
     #[error("pair must be NAME=VALUE")]
     NoPair,
-    /// The log is damaged. What stands before the damage was printed.
+    /// The option `--ulid` is no name of a block.
+    #[error("ulid must be 26 Crockford characters")]
+    BadUlid,
+    /// The log is damaged. What stands before the damage was printed, but where a block was to be made of it.
     #[error("{0}")]
     Damage(DamageLine),
+    /// The index of a block is none.
+    #[error("bad index {0:?}")]
+    BadIndex(ReadFault),
+    /// The chunk files of a block are not those of its index.
+    #[error("bad chunks")]
+    BadChunks,
+    /// The tombstones of a block are not those of any hidden times of its series.
+    #[error("bad tombstones")]
+    BadTombstones,
+    /// meta.json of a block does not say what the block holds.
+    #[error("bad meta")]
+    BadMeta,
     #[error("cannot read {path}")]
     CannotRead { path: String },
+    #[error("cannot write {path}")]
+    CannotWrite { path: String },
+    /// The hour begins before the least time or ends past the greatest, or none of its times is one of 64 bits.
+    #[error("hour at the edge of time")]
+    Edge,
+    /// No accepted sample is at or past the end of the hour.
+    #[error("hour not full")]
+    NotFull,
+    #[error("no samples in hour")]
+    NoSamples,
     /// A number is missing between two files of the log, or two files have one number.
     #[error("gap in segment numbers")]
     Gap,
-    /// All files of the log together have 2^64 bytes or more.
+    /// All files of the log together have 2^64 bytes or more, or a block would be larger than its index can say.
     #[error("too large")]
     TooLarge,
     /// The log has more series, label texts or entries than a head may have.
@@ -66,14 +93,31 @@ impl Fault {
         }
     }
 
+    /// Why the file or directory at `path` was not written. `OutOfMemory` too where the path cannot be copied.
+    pub fn cannot_write(alloc: Global, path: &str, fault: StoreFault) -> Fault {
+        match (fault, String::from_str(alloc, path)) {
+            (StoreFault::Refused, Ok(path)) => Fault::CannotWrite { path },
+            _ => Fault::OutOfMemory,
+        }
+    }
+
     /// The status that the program ends with.
     pub fn status(&self) -> Status {
         match self {
-            Fault::NoPair => Status::Usage,
-            Fault::Damage(_) => Status::Damaged,
-            Fault::CannotRead { .. } | Fault::Gap | Fault::TooLarge | Fault::Full => {
-                Status::Refused
-            }
+            Fault::NoPair | Fault::BadUlid => Status::Usage,
+            Fault::Damage(_)
+            | Fault::BadIndex(_)
+            | Fault::BadChunks
+            | Fault::BadTombstones
+            | Fault::BadMeta => Status::Damaged,
+            Fault::CannotRead { .. }
+            | Fault::CannotWrite { .. }
+            | Fault::Gap
+            | Fault::TooLarge
+            | Fault::Full
+            | Fault::Edge
+            | Fault::NotFull
+            | Fault::NoSamples => Status::Refused,
             Fault::OutOfMemory => Status::OutOfMemory,
         }
     }

@@ -10,6 +10,7 @@ mod spelling;
 mod store;
 
 pub use commands::{Answer, Request, carry_out};
+pub use directory::{join, names_in, read_in, read_log};
 pub use disk::{Disk, read_whole};
 pub use fault::{Fault, Status};
 pub use report::DamageLine;

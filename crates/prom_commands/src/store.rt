@@ -58,6 +58,12 @@ pub trait Store {
     /// A new file. It is refused where there is one already.
     fn create_new(&mut self, path: &str) -> Result<Self::Writer, StoreFault>;
 
+    /// Has what was written to a new file stand on the device.
+    fn sync_file(&mut self, writer: &mut Self::Writer) -> Result<(), StoreFault>;
+
+    /// Has the names in a directory stand on the device.
+    fn sync_dir(&mut self, path: &str) -> Result<(), StoreFault>;
+
     /// A new directory. It is refused where there is one already.
     fn create_dir(&mut self, path: &str) -> Result<(), StoreFault>;
 

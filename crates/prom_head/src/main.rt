@@ -1,4 +1,4 @@
-//! Reads the write-ahead log of a time series database and prints what it holds.
+//! Reads the write-ahead log of a time series database and prints what it holds, or cuts an hour of it into a block.
 #![tactic(auto)]
 
 mod fault;
@@ -14,6 +14,7 @@ use std::env;
 use std::io::ErrorKind;
 use std::process::ExitCode;
 use std::rt::{Env, Files};
+use std::thread::Threads;
 
 // The words of the command line, the program's own name first.
 fn arguments<R: Env + AllocGlobal>(rt: &R) -> Result<Vec<String>, LineFault> {
@@ -51,7 +52,9 @@ fn show<R: Print + Eprint>(rt: &R, answer: &Answer) -> Status {
 }
 
 // Runs the program on real files.
-fn run_here<R: Env + Files + AllocGlobal + Clone + Drop>(rt: &R) -> Result<Answer, LineFault> {
+fn run_here<R: Env + Files + AllocGlobal + Threads + Sync + Clone + Drop>(
+    rt: &R,
+) -> Result<Answer, LineFault> {
     let words = arguments(rt)?;
     run(rt, &mut Disk::new(rt), &words)
 }

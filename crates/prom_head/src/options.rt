@@ -1,9 +1,19 @@
 //! The command line.
 
+use block_commands::BlockRequest;
 use clap::error::ErrorKind;
-use clap::{Arg, ArgMatches, Command, Error};
+use clap::{Arg, ArgMatches, Command, Error, value_parser};
 use prom_commands::Request;
 use std::alloc::{AllocError, Global};
+
+/// What the command line asks for.
+#[derive(Clone, Copy, Debug, PartialEq, Eq)]
+pub enum Asked<'a> {
+    /// To say what a log holds.
+    OfLog(Request<'a>),
+    /// To cut a log into blocks, or to say what a block holds.
+    OfBlocks(BlockRequest<'a>),
+}
 
 // These take the lifetime of the words, though their own texts are static, since the borrow checker does not shorten a
 // lifetime inside a `Command`.
@@ -41,6 +51,56 @@ fn series<'a>(alloc: Global) -> Result<Command<'a>, AllocError> {
         .arg(pair(alloc))
 }
 
+fn ranges<'a>(alloc: Global) -> Result<Command<'a>, AllocError> {
+    Command::new(alloc, "ranges")
+        .about("Lists the hours of the log that can be cut")
+        .arg(dir(alloc))
+}
+
+fn hour<'a>(alloc: Global) -> Arg<'a> {
+    Arg::new(alloc, "hour")
+        .long("hour")
+        .value_name("K")
+        .help("The hour: it begins at K * 3600000 milliseconds")
+        .value_parser(value_parser!(i64))
+        .required(true)
+}
+
+fn ulid<'a>(alloc: Global) -> Arg<'a> {
+    Arg::new(alloc, "ulid")
+        .long("ulid")
+        .value_name("U")
+        .help("The name of the block, a ULID")
+        .required(true)
+}
+
+fn out<'a>(alloc: Global) -> Arg<'a> {
+    Arg::new(alloc, "out")
+        .long("out")
+        .value_name("OUT")
+        .help("The directory in which the block's folder is made")
+        .required(true)
+}
+
+fn cut<'a>(alloc: Global) -> Result<Command<'a>, AllocError> {
+    Command::new(alloc, "cut")
+        .about("Cuts an hour of the log into a block")
+        .arg(dir(alloc))?
+        .arg(hour(alloc))?
+        .arg(ulid(alloc))?
+        .arg(out(alloc))
+}
+
+fn block<'a>(alloc: Global) -> Result<Command<'a>, AllocError> {
+    let path = Arg::new(alloc, "path")
+        .value_name("PATH")
+        .help("The folder of the block")
+        .required(true);
+    Command::new(alloc, "block")
+        .about("Says what a block holds")
+        .arg(path)
+}
+
 // A command with one more below it. There is one place where a half-made command is let go, which is dear to prove.
 fn with<'a>(
     command: Command<'a>,
@@ -51,15 +111,18 @@ fn with<'a>(
 
 fn command<'a>(alloc: Global) -> Result<Command<'a>, AllocError> {
     let command = Command::new(alloc, "prom_head")
-        .about("Reads a write-ahead log of samples")
+        .about("Reads a write-ahead log of samples and cuts it into blocks")
         .subcommand_required(true)
         .disable_help_subcommand(true);
     let command = with(command, replay(alloc))?;
     let command = with(command, records(alloc))?;
-    with(command, series(alloc))
+    let command = with(command, series(alloc))?;
+    let command = with(command, ranges(alloc))?;
+    let command = with(command, cut(alloc))?;
+    with(command, block(alloc))
 }
 
-fn requested<'a>(matches: &ArgMatches<'a>) -> Option<Request<'a>> {
+fn of_log<'a>(matches: &ArgMatches<'a>) -> Option<Request<'a>> {
     match matches.subcommand()? {
         ("replay", of) => Some(Request::Replay {
             dir: of.get_str("dir")?,
@@ -75,24 +138,46 @@ fn requested<'a>(matches: &ArgMatches<'a>) -> Option<Request<'a>> {
     }
 }
 
-fn matched<'a>(
-    command: &mut Command<'a>,
-    words: &'a [String],
-) -> Result<Option<Request<'a>>, Error> {
+fn of_blocks<'a>(matches: &ArgMatches<'a>) -> Option<BlockRequest<'a>> {
+    match matches.subcommand()? {
+        ("ranges", of) => Some(BlockRequest::Ranges {
+            dir: of.get_str("dir")?,
+        }),
+        ("cut", of) => Some(BlockRequest::Cut {
+            dir: of.get_str("dir")?,
+            hour: of.get_one("hour")?,
+            ulid: of.get_str("ulid")?,
+            out: of.get_str("out")?,
+        }),
+        ("block", of) => Some(BlockRequest::Block {
+            path: of.get_str("path")?,
+        }),
+        _ => None,
+    }
+}
+
+fn requested<'a>(matches: &ArgMatches<'a>) -> Option<Asked<'a>> {
+    match of_log(matches) {
+        Some(request) => Some(Asked::OfLog(request)),
+        None => Some(Asked::OfBlocks(of_blocks(matches)?)),
+    }
+}
+
+fn matched<'a>(command: &mut Command<'a>, words: &'a [String]) -> Result<Option<Asked<'a>>, Error> {
     let matches = command.try_get_matches_from_mut(words)?;
     Ok(requested(&matches))
 }
 
-fn asked<'a>(command: &mut Command<'a>, words: &'a [String]) -> Result<Request<'a>, Error> {
+fn parsed<'a>(command: &mut Command<'a>, words: &'a [String]) -> Result<Asked<'a>, Error> {
     match matched(command, words)? {
-        Some(request) => Ok(request),
-        // Not reached: clap has seen to it that there is a subcommand and that it has its directory.
+        Some(asked) => Ok(asked),
+        // Not reached: clap has seen to it that there is a subcommand and that it has what it needs.
         None => Err(command.error(ErrorKind::MissingSubcommand, "a command is missing")?),
     }
 }
 
 /// Reads the command line, the program's own name first. A request for help is an `Err` too.
-pub fn parse<'a>(alloc: Global, words: &'a [String]) -> Result<Request<'a>, Error> {
+pub fn parse<'a>(alloc: Global, words: &'a [String]) -> Result<Asked<'a>, Error> {
     let mut command = command(alloc)?;
-    asked(&mut command, words)
+    parsed(&mut command, words)
 }

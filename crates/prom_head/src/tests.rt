@@ -7,6 +7,7 @@ use std::alloc::{AllocError, Global};
 use std::fmt::Debug;
 use std::fs::File;
 use std::process::Abort;
+use std::thread::Threads;
 
 // A store of which nothing is to be asked. It notes whether anything was.
 #[derive(Drop)]
@@ -33,6 +34,14 @@ impl Store for Untouched {
     }
 
     fn create_new(&mut self, _path: &str) -> Result<File, StoreFault> {
+        self.refuse()
+    }
+
+    fn sync_file(&mut self, _writer: &mut File) -> Result<(), StoreFault> {
+        self.refuse()
+    }
+
+    fn sync_dir(&mut self, _path: &str) -> Result<(), StoreFault> {
         self.refuse()
     }
 
@@ -85,7 +94,10 @@ fn told(alloc: Global, ending: &Result<Answer, LineFault>) -> Result<(u8, String
 }
 
 // Runs the program on a line, which asks nothing of the store: the status, and what is printed or said.
-fn run_line<R: Abort + AllocGlobal>(rt: &R, line: &str) -> Result<(u8, String), AllocError> {
+fn run_line<R: Abort + Threads + Sync + AllocGlobal>(
+    rt: &R,
+    line: &str,
+) -> Result<(u8, String), AllocError> {
     let words = words(rt.alloc(), line)?;
     let mut store = Untouched { was_asked: false };
     let ending = run(rt, &mut store, &words);
@@ -94,14 +106,14 @@ fn run_line<R: Abort + AllocGlobal>(rt: &R, line: &str) -> Result<(u8, String), 
 }
 
 // Command lines that are refused, and what is said of each first.
-const WRONG_LINES: [(&str, &str); 12] = [
+const WRONG_LINES: [(&str, &str); 21] = [
     (
         "prom_head",
         "error: 'prom_head' requires a subcommand but one was not provided\n",
     ),
     (
-        "prom_head ranges log",
-        "error: unrecognized subcommand 'ranges'\n",
+        "prom_head append log",
+        "error: unrecognized subcommand 'append'\n",
     ),
     ("prom_head help", "error: unrecognized subcommand 'help'\n"),
     (
@@ -137,6 +149,42 @@ const WRONG_LINES: [(&str, &str); 12] = [
         "error: unexpected argument '--workers' found\n",
     ),
     ("prom_head series log --pair=", "pair must be NAME=VALUE"),
+    (
+        "prom_head ranges",
+        "error: the following required arguments were not provided:\n  <DIR>\n",
+    ),
+    (
+        "prom_head block",
+        "error: the following required arguments were not provided:\n  <PATH>\n",
+    ),
+    (
+        "prom_head cut log",
+        "error: the following required arguments were not provided:\n  --hour <K>\n  --ulid <U>\n  --out <OUT>\n",
+    ),
+    (
+        "prom_head cut log --hour=1.5 --ulid=01ARZ3NDEKTSV4RRFFQ69G5FAV --out=out",
+        "error: invalid value '1.5' for '--hour <K>': invalid digit found in string\n",
+    ),
+    (
+        "prom_head cut log --hour=9223372036854775808 --ulid=01ARZ3NDEKTSV4RRFFQ69G5FAV --out=out",
+        "error: invalid value '9223372036854775808' for '--hour <K>': ",
+    ),
+    (
+        "prom_head cut log --hour=1 --hour=1 --ulid=01ARZ3NDEKTSV4RRFFQ69G5FAV --out=out",
+        "error: the argument '--hour <K>' cannot be used multiple times\n",
+    ),
+    (
+        "prom_head cut log --hour=1 --ulid= --out=out",
+        "ulid must be 26 Crockford characters",
+    ),
+    (
+        "prom_head cut log --hour=1 --ulid=01ARZ3NDEKTSV4RRFFQ69G5FA --out=out",
+        "ulid must be 26 Crockford characters",
+    ),
+    (
+        "prom_head cut log --hour=1 --ulid=81ARZ3NDEKTSV4RRFFQ69G5FAV --out=out",
+        "ulid must be 26 Crockford characters",
+    ),
 ];
 
 #[test]
@@ -149,7 +197,7 @@ fn wrong_arguments(rt: HostRuntime) -> Result<(), AllocError> {
 }
 
 const HELP: &str = "\
-Reads a write-ahead log of samples
+Reads a write-ahead log of samples and cuts it into blocks
 
 Usage: prom_head <COMMAND>
 
@@ -157,6 +205,9 @@ Commands:
   replay   Counts what the log holds
   records  Lists the records of the log
   series   Lists the series of the log
+  ranges   Lists the hours of the log that can be cut
+  cut      Cuts an hour of the log into a block
+  block    Says what a block holds
 
 Options:
   -h, --help  Print help
@@ -199,13 +250,55 @@ Options:
   -h, --help               Print help
 ";
 
-const HELP_LINES: [(&str, &str); 6] = [
+const RANGES_HELP: &str = "\
+Lists the hours of the log that can be cut
+
+Usage: prom_head ranges <DIR>
+
+Arguments:
+  <DIR>  The directory of the log: a server's `wal`
+
+Options:
+  -h, --help  Print help
+";
+
+const CUT_HELP: &str = "\
+Cuts an hour of the log into a block
+
+Usage: prom_head cut --hour <K> --ulid <U> --out <OUT> <DIR>
+
+Arguments:
+  <DIR>  The directory of the log: a server's `wal`
+
+Options:
+      --hour <K>   The hour: it begins at K * 3600000 milliseconds
+      --ulid <U>   The name of the block, a ULID
+      --out <OUT>  The directory in which the block's folder is made
+  -h, --help       Print help
+";
+
+const BLOCK_HELP: &str = "\
+Says what a block holds
+
+Usage: prom_head block <PATH>
+
+Arguments:
+  <PATH>  The folder of the block
+
+Options:
+  -h, --help  Print help
+";
+
+const HELP_LINES: [(&str, &str); 9] = [
     ("prom_head --help", HELP),
     ("prom_head -h", HELP),
     ("prom_head replay --help", REPLAY_HELP),
     ("prom_head replay log -h", REPLAY_HELP),
     ("prom_head records --help", RECORDS_HELP),
     ("prom_head series --help", SERIES_HELP),
+    ("prom_head ranges --help", RANGES_HELP),
+    ("prom_head cut --help", CUT_HELP),
+    ("prom_head block --help", BLOCK_HELP),
 ];
 
 #[test]
@@ -227,6 +320,11 @@ fn requests(rt: HostRuntime) -> Result<(), AllocError> {
         "prom_head series log",
         "prom_head series log --pair job=a",
         "prom_head series --pair=zone=c log",
+        "prom_head ranges log",
+        "prom_head cut log --hour=1 --ulid 01ARZ3NDEKTSV4RRFFQ69G5FAV --out out",
+        "prom_head cut --out= --hour=-1 --ulid=7ZZZZZZZZZZZZZZZZZZZZZZZZZ log",
+        "prom_head cut log --hour=-9223372036854775808 --ulid 01ARZ3NDEKTSV4RRFFQ69G5FAV --out out",
+        "prom_head block out/01ARZ3NDEKTSV4RRFFQ69G5FAV",
     ] {
         let words = words(rt.alloc(), line)?;
         let mut store = Untouched { was_asked: false };

@@ -1,0 +1,16 @@
+//! What each command about blocks does, over any store: which hours of a log can be cut, an hour cut into a block in a folder, and
+//! what a folder's block holds.
+#![tactic(auto)]
+
+mod blocks;
+mod commands;
+mod cutting;
+mod fault;
+mod parts;
+mod ranges;
+mod report;
+mod writing;
+
+pub use commands::{BlockRequest, carry_out_block};
+pub use parts::read_parts;
+pub use writing::write_block;

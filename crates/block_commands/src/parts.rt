@@ -1,0 +1,65 @@
+//! The parts of a block in a folder.
+
+use block_read::Block;
+use hw_bytes::Items;
+use prom_commands::{Fault, Store, join, names_in, read_in};
+use std::alloc::{AllocError, Global};
+
+/// The name of a chunk file, the files being counted from 1.
+pub fn chunk_name(alloc: Global, number: u64) -> Result<String, AllocError> {
+    format!(in alloc; "{number:06}")
+}
+
+// Whether this is the name of one of the first so many chunk files.
+fn is_chunk_name(alloc: Global, name: &str, most: u64) -> Result<bool, AllocError> {
+    match name.parse::<u64>() {
+        Ok(number) if 1 <= number && number <= most => {
+            Ok(chunk_name(alloc, number)?.as_str() == name)
+        }
+        _ => Ok(false),
+    }
+}
+
+// How many chunk files a directory with these names has, no two of which are equal: `None` unless they are 000001, 000002 and so
+// on, in any order.
+fn chunk_count(alloc: Global, names: &[String]) -> Result<Option<u64>, AllocError> {
+    let count = names.len() as u64;
+    for name in names {
+        if !is_chunk_name(alloc, name, count)? {
+            return Ok(None);
+        }
+    }
+    Ok(Some(count))
+}
+
+// The chunk files in a directory. Where one of its names is no chunk file's there are none: a block has a chunk, so that these parts
+// are then refused for their chunks, once the index is found to be good.
+fn read_chunks<S: Store>(
+    alloc: Global,
+    store: &mut S,
+    dir: &str,
+) -> Result<Items<Items<u8>>, Fault> {
+    let names = names_in(alloc, store, dir)?;
+    let count = chunk_count(alloc, &names)?.unwrap_or(0);
+    let mut files = Vec::new(alloc);
+    for number in 1..=count {
+        let name = chunk_name(alloc, number)?;
+        files.push(read_in(alloc, store, dir, &name)?)?;
+    }
+    Ok(Items::from_vec(files))
+}
+
+/// The parts of the block in a folder. All are read before any is judged.
+pub fn read_parts<S: Store>(alloc: Global, store: &mut S, path: &str) -> Result<Block, Fault> {
+    let index = read_in(alloc, store, path, "index")?;
+    let dir = join(alloc, path, "chunks")?;
+    let chunks = read_chunks(alloc, store, &dir)?;
+    let tombstones = read_in(alloc, store, path, "tombstones")?;
+    let meta = read_in(alloc, store, path, "meta.json")?;
+    Ok(Block {
+        index,
+        chunks,
+        tombstones,
+        meta,
+    })
+}

@@ -1,0 +1,25 @@
+//! The hours of a log that can be cut.
+
+ghost use Rattle.std.specs.Prelude.{◌≡◌, false};
+
+use crate::report::ranges_text;
+use block_cut::full_ranges;
+use head_core::{Replayed, replay_serial};
+use prom_commands::{Answer, Fault, Store, read_log};
+use std::alloc::Global;
+
+// The full hours of a replayed log, a line each.
+fn listed(alloc: Global, replayed: &Replayed) -> Result<Answer, Fault>
+    requires { replayed.now.head.failed ≡ false }
+{
+    let hours = full_ranges(alloc, &replayed.head)?;
+    let text = ranges_text(alloc, &hours)?;
+    Ok(Answer::up_to(text, replayed.damage))
+}
+
+/// Lists the full hours of the log in a directory, as far as it is not damaged.
+pub fn ranges<S: Store>(alloc: Global, store: &mut S, dir: &str) -> Result<Answer, Fault> {
+    let input = read_log(alloc, store, dir)?;
+    let replayed = replay_serial(alloc, &input)?;
+    listed(alloc, &replayed)
+}

@@ -1,0 +1,55 @@
+-- How long the data of a chunk may be.
+use Rattle.std.proofs.Common.{◌≡◌, ℕ, zero, suc, ◌+◌, ◌*◌, ◌/◌, ◌%◌, ◌≤◌, Bool, true, false, List, [], ◌∷◌, length, map, take, drop, refl, arith, All}
+use Rattle.std.specs.Prelude.{ℤ, Option, None, Some, nat_lt, cond}
+use Rattle.std.proofs.lemmas.List.{length-append, length-take}
+use Rattle.std.proofs.lemmas.List.Elements.{All-append, All-cons, All-nil}
+use Rattle.hw_bytes.specs.Writing.{big_bytes, uvarint, uvarint_in}
+use Rattle.head_column.specs.declared.items.Sample.{Sample}
+use Rattle.head_column.specs.declared.chunk.Chunk.{Chunk}
+use Rattle.head_column.specs.Chunks.{chunk_of, chunk_text, chunks_of, parts_in, sample_text, samples_text, time_text, value_text}
+use Rattle.block_files.specs.Files.{AreShort, all_texts}
+use Rattle.block_read.specs.Blocks.{chunks_of_rows}
+
+uvarint_in-short : (k n : ℕ) → length (uvarint_in k n) ≤ suc k
+unfolding uvarint_in
+uvarint_in-short zero n = omega arith
+uvarint_in-short (suc k) n = by (nat_lt n 128) (uvarint_in-short k (n / 128)) where
+  by : (b : Bool) → length (uvarint_in k (n / 128)) ≤ suc k → length (cond b (n ∷ []) ((n % 128 + 128) ∷ uvarint_in k (n / 128))) ≤ suc (suc k)
+  by true h = omega arith
+  by false h = omega arith
+
+uvarint-short : (n : ℕ) → length (uvarint n) ≤ 10
+unfolding uvarint
+uvarint-short n = uvarint_in-short 9 n
+
+time_text-short : (before : Option ℤ) (t : ℤ) → length (time_text before t) ≤ 10
+time_text-short None t = uvarint-short _
+time_text-short (Some u) t = uvarint-short _
+
+samples_text-short : (before : Option ℤ) (xs : List Sample) → length (samples_text before xs) ≤ 18 * length xs
+samples_text-short before [] = omega arith
+samples_text-short before (s ∷ xs) =
+    let rest = samples_text-short (Some s.time) xs in
+    let time = time_text-short before s.time in
+    let value : length (value_text s.value) ≡ 8 = refl in
+    omega (arith, rest, time, value, length-append (sample_text before s) (samples_text (Some s.time) xs), length-append (time_text before s.time) (value_text s.value))
+
+chunk_text-short : (xs : List Sample) → length xs ≤ 120 → length (chunk_text xs) ≤ 2162
+chunk_text-short xs few =
+    let count : length (big_bytes 2 (length xs)) ≡ 2 = refl in
+    omega (arith, samples_text-short None xs, few, count, length-append (big_bytes 2 (length xs)) (samples_text None xs))
+
+abbrev IsShort : List ℕ → Type 0
+IsShort bytes = length bytes ≤ 2162
+
+parts-short : (k : ℕ) (xs : List Sample) → All IsShort (map (λ (c : Chunk). c.text) (map chunk_of (parts_in k 120 xs)))
+parts-short zero xs = All-nil IsShort
+parts-short (suc k) [] = All-nil IsShort
+parts-short (suc k) (x ∷ xs) =
+    All-cons IsShort (chunk_text (take 120 (x ∷ xs))) (map (λ (c : Chunk). c.text) (map chunk_of (parts_in k 120 (drop 120 (x ∷ xs)))))
+    (chunk_text-short (take 120 (x ∷ xs)) (omega (arith, length-take 120 (x ∷ xs)))) (parts-short k (drop 120 (x ∷ xs)))
+
+-- the chunks of any samples are short enough
+pub chunks-short : (samples : List (List Sample)) → AreShort (chunks_of_rows samples)
+chunks-short [] = All-nil IsShort
+chunks-short (xs ∷ rest) = All-append IsShort (map (λ (c : Chunk). c.text) (chunks_of xs)) (all_texts (chunks_of_rows rest)) (parts-short (length xs) xs) (chunks-short rest)

@@ -1,0 +1,18 @@
+-- Two lists side by side, of which one is at its end.
+use Rattle.std.proofs.Common.{◌≡◌, ◌⊎◌, inl, inr, List, [], ◌∷◌, ◌++◌, map, refl, sym, ap, ◌∙◌}
+use Rattle.std.specs.List.{flat_map, zip}
+use Rattle.hw_bytes.proofs.Lists.{append_none}
+
+module _ {A B : Type 0} where
+  zip_none : (xs : List A) (ys : List B) → (xs ≡ []) ⊎ (ys ≡ []) → zip xs ys ≡ []
+  zip_none [] ys one = refl
+  zip_none (x ∷ xs) [] one = refl
+  zip_none (x ∷ xs) (y ∷ ys) (inl e) = absurd cc
+  zip_none (x ∷ xs) (y ∷ ys) (inr e) = absurd cc
+
+  -- what a loop has made of two lists, once one of them is at its end
+  pub map_zipped : {C : Type 0} (f : A × B → C) (done all : List C) (xs : List A) (ys : List B) → (xs ≡ []) ⊎ (ys ≡ []) → done ++ map f (zip xs ys) ≡ all → done ≡ all
+  map_zipped {C} f done all xs ys one h = sym (append_none done) ∙ ap (λ (z : List (A × B)). done ++ map f z) (sym (zip_none xs ys one)) ∙ h
+
+  pub flat_map_zipped : {C : Type 0} (f : A × B → List C) (done all : List C) (xs : List A) (ys : List B) → (xs ≡ []) ⊎ (ys ≡ []) → done ++ flat_map f (zip xs ys) ≡ all → done ≡ all
+  flat_map_zipped {C} f done all xs ys one h = sym (append_none done) ∙ ap (λ (z : List (A × B)). done ++ flat_map f z) (sym (zip_none xs ys one)) ∙ h

@@ -1,0 +1,6 @@
+use Rattle.std.proofs.Common.{◌≡◌, take}
+use Rattle.block_cut.specs.Cutting.{sample_count}
+use Rattle.block_cut.proofs.writing.count_samples.Given as goal
+
+abbrev pub invariant-loop-row : goal.invariant-loop-row
+invariant-loop-row l = l.count ≡ sample_count (take l.row-index l.rows)

@@ -1,0 +1,97 @@
+-- Words of proofs and of private functions, cited by no public contract: how a cut comes to its block.
+use Rattle.std.specs.Prelude.{◌≡◌, ◌<◌, ◌==◌, ℕ, ℤ, List, Option, None, Some, All, Contains, IsTrue, length, map, if◌then◌else◌}
+use Rattle.std.specs.List.{zip, sum_by}
+use Rattle.std.specs.declared.cmp.Ordering.TheVariants.{Less}
+use Rattle.wal_record.specs.Labels.{Labels, compare_labels}
+use Rattle.head_column.specs.declared.chunk.Chunk.{Chunk}
+use Rattle.head_column.specs.declared.items.Run.{Run}
+use Rattle.head_column.specs.declared.items.Sample.{Sample}
+use Rattle.head_column.specs.Hours.{IsEdge, is_in_hour}
+use Rattle.head_column.specs.Chunks.{IsFit, chunks_of}
+use Rattle.head_column.specs.Histories.{History}
+use Rattle.head_column.specs.Runs.{AreApart}
+use Rattle.head_column.specs.Samples.{Rises}
+use Rattle.head_series.specs.Table.{labels_at}
+use Rattle.head_core.specs.Content.{Content}
+use Rattle.head_core.specs.Heads.{history_at}
+use Rattle.block_index.specs.declared.row.ChunkMeta.{ChunkMeta}
+use Rattle.block_index.specs.declared.row.IndexRow.{IndexRow}
+use Rattle.block_index.specs.Rows.{IsChain}
+use Rattle.block_files.specs.declared.tombstones.Tombstone.{Tombstone}
+use Rattle.block_files.specs.Files.{references, texts}
+use Rattle.block_read.specs.declared.rows.BlockRow.{BlockRow}
+use Rattle.block_read.specs.Blocks.{IsRowOf, file_limit, meta_of}
+use Rattle.block_cut.specs.declared.rows.CutRow.{CutRow}
+use Rattle.block_cut.specs.Clipping.{samples_in, runs_in}
+use Rattle.block_cut.specs.Rows.{IsFull}
+
+-- the row, its samples in chunks
+abbrev pub in_chunks : BlockRow → CutRow
+in_chunks row = record { labels = row.labels; chunks = chunks_of row.samples; hidden = row.hidden }
+
+-- These are some rows of the hour, at least one, in the order of label sets, with their samples in chunks.
+pub record AreCutRows (k : ℤ) (rows : List CutRow) : Type 0 where
+  pub those : List BlockRow
+  pub cut : rows ≡ map in_chunks those
+  pub some : 0 < length those
+  pub each : All (IsRowOf k) those
+  pub ascending : IsChain (λ (a b : BlockRow). compare_labels a.labels b.labels ≡ Less) those
+
+-- what an hour has of a series, its samples in chunks
+abbrev pub cut_row : ℤ → Labels × History → CutRow
+cut_row k series = record { labels = series.0; chunks = chunks_of (samples_in k series.1.samples); hidden = runs_in k series.1.hidden }
+
+-- the row, if it has chunks
+abbrev pub if_chunks : CutRow → Option CutRow
+if_chunks row = if length row.chunks == 0 then None else Some row
+
+-- the series in a slot
+abbrev pub series_at : Content → ℕ → Labels × History
+series_at c slot = (labels_at c.table slot, history_at c slot)
+
+-- the row of the series in a slot, if it has chunks
+abbrev pub row_at : ℤ → Content → ℕ → Option CutRow
+row_at k c slot = if_chunks (cut_row k (series_at c slot))
+
+-- what holds of the history of every series
+pub record IsHistory (h : History) : Type 0 where
+  pub rises : Rises h.samples
+  pub fit : All IsFit h.samples
+  pub apart : AreApart h.hidden
+
+-- the chunks of a row as the index names them, with these references
+abbrev pub named : List Chunk × List ℕ → List ChunkMeta
+named x = map meta_of (zip x.0 x.1)
+
+-- the chunks of each row as the index names them
+abbrev pub metas_in : List (List Chunk) → List (List ChunkMeta)
+metas_in chunks = map named (zip chunks (references file_limit (texts chunks)))
+
+-- the tombstones of a series id and its hidden runs
+abbrev pub stones : ℕ × List Run → List Tombstone
+stones x = map (λ (r : Run). record { series = x.0; run = r }) x.1
+
+-- rows of an index, of their labels and their chunks
+abbrev pub index_rows_of : List Labels → List (List ChunkMeta) → List IndexRow
+index_rows_of labels metas = map (λ (x : Labels × List ChunkMeta). record { labels = x.0; chunks = x.1 }) (zip labels metas)
+
+-- how many samples some chunks have, and the chunks of some rows
+abbrev pub chunk_count : List Chunk → ℕ
+chunk_count chunks = sum_by (λ (c : Chunk). c.count) chunks
+
+abbrev pub sample_count : List (List Chunk) → ℕ
+sample_count rows = sum_by chunk_count rows
+
+-- a full hour with one of these samples, each time of which has 64 bits
+pub record IsRangeIn (k : ℤ) (samples : List Sample) (c : Content) : Type 0 where
+  pub full : IsFull k c
+  pub whole : IsEdge k → ⊥
+  pub sample : Sample
+  pub is_sample : Contains samples sample
+  pub within : IsTrue (is_in_hour k sample.time)
+
+-- the same, of the samples of the first n series
+pub record IsRangeBelow (n : ℕ) (k : ℤ) (c : Content) : Type 0 where
+  pub slot : ℕ
+  pub below : slot < n
+  pub some : IsRangeIn k (history_at c slot).samples c

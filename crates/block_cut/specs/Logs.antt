@@ -1,0 +1,20 @@
+-- The block that a log has.
+use Rattle.std.specs.Prelude.{ℤ, List, Option}
+use Rattle.wal_log.specs.Inputs.{Files}
+use Rattle.wal_log.specs.declared.reading.Damage.{Damage}
+use Rattle.wal_log.specs.declared.reading.Placed.{Placed}
+use Rattle.wal_log.specs.Log.{IsReading, contents}
+use Rattle.head_core.specs.Content.{Content, IsContentOf}
+use Rattle.block_text.specs.Sums.{Text}
+use Rattle.block_read.specs.declared.block.Block.{Block}
+use Rattle.block_cut.specs.Rows.{rows_of}
+use Rattle.block_read.specs.Blocks.{IsBlockOf}
+
+-- These are the parts of the block of the hour, under this name, that the log's records say, read one after another up to its first damage.
+pub record IsBlockOfLog (log : Files) (hour : ℤ) (ulid : Text) (block : Block) : Type 0 where
+  pub records : List Placed
+  pub damage : Option Damage
+  pub content : Content
+  pub reading : IsReading log records damage
+  pub is_content : IsContentOf (contents records) content
+  pub is_block : IsBlockOf block (record { ulid = ulid; hour = hour; rows = rows_of hour content })

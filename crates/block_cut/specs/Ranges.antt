@@ -1,0 +1,27 @@
+-- The hours that can be cut.
+use Rattle.std.specs.Prelude.{ℤ, ◌<ℤ◌, List, [], ◌∷◌, Contains, IsTrue}
+use Rattle.head_column.specs.declared.items.Sample.{Sample}
+use Rattle.head_column.specs.Histories.{History}
+use Rattle.head_column.specs.Hours.{IsEdge, is_in_hour}
+use Rattle.head_core.specs.Content.{Content}
+use Rattle.block_cut.specs.Rows.{IsFull}
+
+-- some accepted sample of some series is in the hour
+pub record HasSample (k : ℤ) (c : Content) : Type 0 where
+  pub history : History
+  pub sample : Sample
+  pub is_history : Contains c.histories history
+  pub is_sample : Contains history.samples sample
+  pub within : IsTrue (is_in_hour k sample.time)
+
+-- a full hour with a sample, each time of which has 64 bits
+pub record IsRange (k : ℤ) (c : Content) : Type 0 where
+  pub full : IsFull k c
+  pub some : HasSample k c
+  pub whole : IsEdge k → ⊥
+
+-- each number is greater than the one before it
+abbrev pub Ascends : List ℤ → Type 0
+Ascends [] = Unit {0}
+Ascends (k ∷ []) = Unit {0}
+Ascends (k ∷ l ∷ more) = (k <ℤ l) × Ascends (l ∷ more)

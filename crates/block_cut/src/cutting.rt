@@ -1,0 +1,60 @@
+//! An hour of a head, cut into a block.
+
+ghost use Rattle.std.specs.Prelude.{◌≡◌, ◌↔◌, ◌<◌, ◌^◌, [], false, Err, IfOk, IsTrue, length};
+ghost use Rattle.head_column.specs.Hours.{IsEdge};
+ghost use Rattle.block_index.specs.Rows.{FitsIndex};
+ghost use Rattle.block_cut.specs.Rows.{IsFull, rows_of};
+ghost use Rattle.block_read.specs.Blocks.{IsBlockOf, files_of, index_rows, samples_of_rows};
+
+use crate::fault::CutFault;
+use crate::rows::{last_of, rows_in};
+use crate::writing::write_block;
+use block_read::{Block, Ulid};
+use head_column::Hour;
+use head_core::Head;
+use std::alloc::Global;
+use std::thread::Threads;
+
+/// Whether an hour that is no edge is full: some accepted sample has a time at or past its end.
+pub(crate) fn is_full(head: &Head, hour: Hour) -> bool
+    requires sound { head.now.failed ≡ false }
+    requires whole { IsEdge hour → ⊥ }
+    ensures { IsTrue result ↔ IsFull hour head.now.content }
+{
+    match head.max_time() {
+        None => false,
+        Some(time) => last_of(hour) < time,
+    }
+}
+
+/// The block of an hour of a head that has not failed: its rows are the series with an accepted sample in the hour, in the order of label
+/// sets. Their chunks are encoded in as many threads as `rt` has processors.
+pub fn cut(
+    rt: &(impl Threads + Sync),
+    alloc: Global,
+    head: &Head,
+    hour: Hour,
+    ulid: &Ulid,
+) -> Result<Block, CutFault>
+    requires { head.now.failed ≡ false }
+    ensures block { IfOk result (λ block. IsBlockOf block (record { ulid = ulid.now; hour = hour; rows = rows_of hour head.now.content })) }
+    ensures full { IfOk result (λ _. IsFull hour head.now.content) }
+    ensures edge { result ≡ Err CutFault.Edge ↔ IsEdge hour }
+    ensures not_full { result ≡ Err CutFault.NotFull ↔ (IsEdge hour → ⊥) × (IsFull hour head.now.content → ⊥) }
+    ensures nothing { result ≡ Err CutFault.Nothing → (IsEdge hour → ⊥) × IsFull hour head.now.content × (rows_of hour head.now.content ≡ []) }
+    ensures large { result ≡ Err CutFault.TooLarge → FitsIndex (index_rows (rows_of hour head.now.content)) → 2 ^ 32 < length (files_of (samples_of_rows (rows_of hour head.now.content))) }
+{
+    // for the proof, which learns by this that it is a ULID
+    let _digits = ulid.as_bytes();
+    if hour.is_edge() {
+        return Err(CutFault::Edge);
+    }
+    if !is_full(head, hour) {
+        return Err(CutFault::NotFull);
+    }
+    let rows = rows_in(rt, alloc, head, hour)?;
+    if rows.is_empty() {
+        return Err(CutFault::Nothing);
+    }
+    Ok(write_block(alloc, rows, hour, ulid)?)
+}

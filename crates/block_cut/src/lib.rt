@@ -1,0 +1,19 @@
+//! Blocks: an hour of a head, cut into the parts that a block has, and read back.
+#![tactic(auto)]
+
+mod cutting;
+mod fault;
+mod laws;
+mod ranges;
+mod rows;
+mod writing;
+
+pub use block_files::write_chunks;
+pub use block_read::{
+    BadUlid, Block, BlockFault, BlockRow, BlockRows, ReadFault, Ulid, read_block,
+};
+pub use block_text::WriteFault;
+pub use cutting::cut;
+pub use fault::CutFault;
+pub use laws::one_block;
+pub use ranges::full_ranges;

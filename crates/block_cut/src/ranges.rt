@@ -1,0 +1,83 @@
+//! The hours of a head that can be cut.
+
+ghost use Rattle.std.specs.Prelude.{◌≡◌, ◌<◌, ◌↔◌, ◌⊎◌, ℤ, false, length, Contains, IfOk, IsTrue, OnOk};
+ghost use Rattle.std.specs.Ordering.{int_cmp};
+ghost use Rattle.std.specs.List.Sorted.{IsPermutation, IsSorted};
+ghost use Rattle.head_column.specs.Hours.{IsEdge, is_in_hour};
+ghost use Rattle.block_cut.specs.Cutting.{IsRangeIn};
+ghost use Rattle.block_cut.specs.Ranges.{Ascends, IsRange};
+ghost use Rattle.block_cut.specs.Rows.{IsFull};
+
+use crate::cutting::is_full;
+use head_column::{Hour, Sample};
+use head_core::Head;
+use head_series::Slot;
+use std::alloc::{AllocError, Global};
+
+// Whether the hour is full and no edge.
+fn can_be_cut(head: &Head, hour: Hour) -> bool
+    requires { head.now.failed ≡ false }
+    ensures { IsTrue result ↔ (IsEdge hour → ⊥) × IsFull hour head.now.content }
+{
+    if hour.is_edge() {
+        return false;
+    }
+    is_full(head, hour)
+}
+
+fn hour_of(sample: &Sample) -> Hour
+    ensures { IsTrue (is_in_hour result sample.now.time) }
+{
+    Hour::of(sample.time)
+}
+
+// Adds the hour behind others, if it is not the last of them already.
+fn push_new(hours: &mut Vec<Hour>, hour: Hour) -> Result<(), AllocError>
+    ensures { OnOk result ((k : ℤ) → Contains hours.new.items k ↔ (Contains hours.old.items k ⊎ (k ≡ hour))) }
+{
+    if let Some(last) = hours.last() {
+        if last.k() == hour.k() {
+            return Ok(());
+        }
+    }
+    hours.push(hour)?;
+    Ok(())
+}
+
+// Adds the hours of some samples that are full and no edge.
+fn add_hours(hours: &mut Vec<Hour>, head: &Head, samples: &[Sample]) -> Result<(), AllocError>
+    requires { head.now.failed ≡ false }
+    ensures { OnOk result ((k : ℤ) → Contains hours.new.items k ↔ (Contains hours.old.items k ⊎ IsRangeIn k samples.now head.now.content)) }
+{
+    for sample in samples {
+        let hour = hour_of(sample);
+        if can_be_cut(head, hour) {
+            push_new(hours, hour)?;
+        }
+    }
+    Ok(())
+}
+
+fn sort_hours(hours: &mut Vec<Hour>) -> Result<(), AllocError>
+    ensures permutation { IsPermutation hours.old.items hours.new.items }
+    ensures sorted { OnOk result (IsSorted int_cmp hours.new.items) }
+{
+    hours.sort_by_key(|hour| hour.k())
+}
+
+/// The full hours of a head that has not failed that have an accepted sample and are no edge, ascending.
+pub fn full_ranges(alloc: Global, head: &Head) -> Result<Vec<Hour>, AllocError>
+    requires { head.now.failed ≡ false }
+    ensures ascending { IfOk result (λ hours. Ascends hours.items) }
+    ensures exact { IfOk result (λ hours. (k : ℤ) → Contains hours.items k ↔ IsRange k head.now.content) }
+{
+    let series = head.series();
+    let mut hours = Vec::new(alloc);
+    for number in 0..series as u32 {
+        let samples = head.samples(Slot::new(number))?;
+        add_hours(&mut hours, head, &samples)?;
+    }
+    sort_hours(&mut hours)?;
+    hours.dedup();
+    Ok(hours)
+}

@@ -1,0 +1,185 @@
+//! What an hour of a head has of each series.
+
+ghost use Rattle.std.specs.Prelude.{◌≡◌, ◌<◌, ◌↔◌, ℤ, false, length, map, All, IfOk, OnOk, IsTrue};
+ghost use Rattle.std.specs.List.{filter_map, range_with_len};
+ghost use Rattle.std.specs.List.Sorted.{IsPermutation, IsSorted};
+ghost use Rattle.std.specs.declared.cmp.Ordering.TheVariants.{Less};
+ghost use Rattle.wal_record.specs.Labels.{compare_labels};
+ghost use Rattle.head_column.specs.Hours.{IsEdge, hour_start};
+ghost use Rattle.head_column.specs.Runs.{AreApart};
+ghost use Rattle.head_column.specs.Samples.{Rises};
+ghost use Rattle.head_core.specs.Heads.{history_at};
+ghost use Rattle.block_cut.specs.Clipping.{clip, runs_in};
+ghost use Rattle.block_cut.specs.Cutting.{IsHistory, in_chunks, row_at};
+ghost use Rattle.block_cut.specs.Rows.{rows_of};
+ghost use Rattle.block_index.specs.Rows.{IsChain};
+ghost use Rattle.block_read.specs.Blocks.{IsRowOf, hour_last};
+
+use head_column::{Chunk, Hour, Run};
+use head_core::Head;
+use head_series::Slot;
+use hw_bytes::Items;
+use rayon::prelude::*;
+use std::alloc::{AllocError, Global};
+use std::thread::Threads;
+use wal_record::LabelSet;
+
+// The length of an hour in milliseconds.
+const HOUR_LENGTH: i64 = 3_600_000;
+
+/// What an hour has of a series, its samples in chunks.
+#[derive(Debug)]
+pub(crate) struct CutRow {
+    pub(crate) labels: LabelSet,
+    pub(crate) chunks: Items<Chunk>,
+    pub(crate) hidden: Items<Run>,
+}
+
+// Written out: where another function lets go of a row, its proof has one call, and not a copy of this.
+impl Drop for CutRow {
+    fn drop(self) {
+        let CutRow {
+            labels: _labels,
+            chunks: _chunks,
+            hidden: _hidden,
+        } = self;
+    }
+}
+
+impl CutRow {
+    /// The labels, the chunks and the hidden runs.
+    pub(crate) fn into_parts(self) -> (LabelSet, Items<Chunk>, Items<Run>)
+        ensures labels { result.0 ≡ self.labels }
+        ensures chunks { result.1 ≡ self.chunks }
+        ensures hidden { result.2 ≡ self.hidden }
+    {
+        let CutRow {
+            labels,
+            chunks,
+            hidden,
+        } = self;
+        (labels, chunks, hidden)
+    }
+}
+
+/// The first time of an hour that is no edge, in milliseconds.
+pub(crate) fn first_of(hour: Hour) -> i64
+    requires { IsEdge hour → ⊥ }
+    ensures { result ≡ hour_start hour }
+{
+    hour.k() * HOUR_LENGTH
+}
+
+/// The last time of an hour that is no edge, in milliseconds.
+pub(crate) fn last_of(hour: Hour) -> i64
+    requires { IsEdge hour → ⊥ }
+    ensures { result ≡ hour_last hour }
+{
+    first_of(hour) + (HOUR_LENGTH - 1)
+}
+
+// The times of a run that are in an hour that is no edge.
+fn clipped(run: &Run, hour: Hour) -> Run
+    requires { IsEdge hour → ⊥ }
+    ensures { result ≡ clip hour run.now }
+{
+    Run {
+        min_time: run.min_time.max(first_of(hour)),
+        max_time: run.max_time.min(last_of(hour)),
+    }
+}
+
+// The runs, clipped to an hour that is no edge, without the empty ones.
+fn clip_runs(alloc: Global, runs: &[Run], hour: Hour) -> Result<Vec<Run>, AllocError>
+    requires { IsEdge hour → ⊥ }
+    ensures { IfOk result (λ clipped. clipped.items ≡ runs_in hour runs.now) }
+{
+    let mut kept = Vec::new(alloc);
+    for run in runs {
+        let part = clipped(run, hour);
+        if part.min_time <= part.max_time {
+            kept.push(part)?;
+        }
+    }
+    Ok(kept)
+}
+
+// What an hour that is no edge has of the series in a slot, where a sample of it is in the hour.
+fn row_of(alloc: Global, head: &Head, slot: Slot, hour: Hour) -> Result<Option<CutRow>, AllocError>
+    requires sound { head.now.failed ≡ false }
+    requires slot { slot < length head.now.content.table.series }
+    requires whole { IsEdge hour → ⊥ }
+    ensures row { IfOk result (λ row. row ≡ row_at hour head.now.content slot) }
+    ensures held { IsHistory (history_at head.now.content slot) }
+{
+    let chunks = head.chunks_in(slot, hour)?;
+    if chunks.is_empty() {
+        return Ok(None);
+    }
+    Ok(Some(CutRow {
+        labels: head.labels(slot)?,
+        chunks: Items::from_vec(chunks),
+        hidden: Items::from_vec(clip_runs(alloc, head.hidden(slot), hour)?),
+    }))
+}
+
+// What an hour that is no edge has of each series, by slot, from as many threads as there are processors.
+fn each_row(
+    rt: &(impl Threads + Sync),
+    alloc: Global,
+    head: &Head,
+    hour: Hour,
+    series: u32,
+) -> Result<Vec<Option<CutRow>>, AllocError>
+    requires sound { head.now.failed ≡ false }
+    requires whole { IsEdge hour → ⊥ }
+    requires series { series ≡ length head.now.content.table.series }
+    ensures rows { IfOk result (λ rows. rows.items ≡ map (row_at hour head.now.content) (range_with_len 0 series)) }
+    ensures held { IfOk result (λ _. All (λ slot. IsHistory (history_at head.now.content slot)) (range_with_len 0 series)) }
+{
+    (0..series)
+        .into_par_iter()
+        .map(
+            |number: u32| -> Result<Option<CutRow>, AllocError>
+                requires sound { head.now.failed ≡ false }
+                requires slot { number < length head.now.content.table.series }
+                requires whole { IsEdge hour → ⊥ }
+                ensures row { IfOk result (λ row. row ≡ row_at hour head.entry.now.content number) }
+                ensures held { IsHistory (history_at head.entry.now.content number) }
+            { row_of(alloc, head, Slot::new(number), hour) },
+        )
+        .collect::<Result<Vec<Option<CutRow>>, AllocError>>(rt, alloc)?
+}
+
+// The rows that there are.
+fn keep_rows(alloc: Global, rows: Vec<Option<CutRow>>) -> Result<Vec<CutRow>, AllocError>
+    ensures { IfOk result (λ kept. kept.items ≡ filter_map (λ row. row) rows.items) }
+{
+    rows.into_iter().filter_map(|row| row).collect(alloc)
+}
+
+fn sort_rows(rows: &mut Vec<CutRow>) -> Result<(), AllocError>
+    ensures permutation { IsPermutation rows.old.items rows.new.items }
+    ensures sorted { OnOk result (IsSorted (λ a b. compare_labels a.labels b.labels) rows.new.items) }
+{
+    rows.sort_by(|a, b| a.labels.compare(&b.labels))
+}
+
+/// What an hour that is no edge has of the series of a head: a row for each with an accepted sample in it, in the order of label sets.
+pub(crate) fn rows_in(
+    rt: &(impl Threads + Sync),
+    alloc: Global,
+    head: &Head,
+    hour: Hour,
+) -> Result<Vec<CutRow>, AllocError>
+    requires sound { head.now.failed ≡ false }
+    requires whole { IsEdge hour → ⊥ }
+    ensures rows { IfOk result (λ rows. rows.items ≡ map in_chunks (rows_of hour head.now.content)) }
+    ensures each { IfOk result (λ _. All (IsRowOf hour) (rows_of hour head.now.content)) }
+    ensures ascending { IfOk result (λ _. IsChain (λ a c. compare_labels a.labels c.labels ≡ Less) (rows_of hour head.now.content)) }
+{
+    let series = head.series();
+    let mut rows = keep_rows(alloc, each_row(rt, alloc, head, hour, series as u32)?)?;
+    sort_rows(&mut rows)?;
+    Ok(rows)
+}

@@ -1,0 +1,231 @@
+//! The parts of a block.
+
+ghost use Rattle.std.specs.Prelude.{◌≡◌, ◌≤◌, ◌<◌, ◌^◌, ◌+◌, ◌++◌, List, Err, OnOk, length, map, All, IfOk, IfSome};
+ghost use Rattle.std.specs.List.{sum_by, zip};
+ghost use Rattle.std.specs.declared.cmp.Ordering.TheVariants.{Less};
+ghost use Rattle.wal_record.specs.Labels.{compare_labels};
+ghost use Rattle.head_column.specs.Hours.{IsEdge};
+ghost use Rattle.block_index.specs.Rows.{FitsChunk, FitsIndex, IsChain};
+ghost use Rattle.block_files.specs.Files.{AreShort, all_texts, chunk_files};
+ghost use Rattle.block_read.specs.declared.rows.BlockRow.{BlockRow as Row};
+ghost use Rattle.block_read.specs.Blocks.{IsRowOf, block_text, file_limit, files_of, index_rows, meta_of, samples_of_rows, tombstones_of as tombstones_of_runs};
+ghost use Rattle.block_cut.specs.Cutting.{AreCutRows, chunk_count, in_chunks, index_rows_of as rows_of_index, metas_in, named, sample_count};
+
+use crate::rows::{CutRow, first_of, last_of};
+use block_files::{
+    CHUNK_FILE_LIMIT, Meta, Tombstone, Ulid, write_chunks, write_meta, write_tombstones,
+};
+use block_index::{ChunkMeta, IndexRow, write_numbered_index};
+use block_read::Block;
+use block_text::WriteFault;
+use head_column::{Chunk, Hour, Run};
+use hw_bytes::Items;
+use std::alloc::{AllocError, Global};
+use wal_record::LabelSet;
+
+// The labels, the chunks and the hidden runs of some rows.
+#[derive(Drop)]
+struct Columns {
+    labels: Vec<LabelSet>,
+    chunks: Vec<Items<Chunk>>,
+    hidden: Vec<Items<Run>>,
+}
+
+fn split_rows(alloc: Global, rows: Vec<CutRow>) -> Result<Columns, AllocError>
+    ensures labels { IfOk result (λ columns. columns.labels.items ≡ map (λ r. r.labels) rows.items) }
+    ensures chunks { IfOk result (λ columns. columns.chunks.items ≡ map (λ r. r.chunks) rows.items) }
+    ensures hidden { IfOk result (λ columns. columns.hidden.items ≡ map (λ r. r.hidden) rows.items) }
+{
+    let mut labels = Vec::with_capacity(alloc, rows.len())?;
+    let mut chunks = Vec::with_capacity(alloc, rows.len())?;
+    let mut hidden = Vec::with_capacity(alloc, rows.len())?;
+    for row in rows {
+        let (row_labels, row_chunks, row_hidden) = row.into_parts();
+        labels.push(row_labels)?;
+        chunks.push(row_chunks)?;
+        hidden.push(row_hidden)?;
+    }
+    Ok(Columns {
+        labels,
+        chunks,
+        hidden,
+    })
+}
+
+// The samples in some chunks, counted on from others. `None` past what a `u64` holds.
+fn add_samples(before: u64, chunks: &[Chunk]) -> Option<u64>
+    ensures { IfSome result (λ count. count ≡ before + chunk_count chunks.now) }
+{
+    let mut count = before;
+    for chunk in chunks {
+        count = count.checked_add(chunk.count as u64)?;
+    }
+    Some(count)
+}
+
+// How many samples the rows have. `None` past what a `u64` holds.
+fn count_samples(rows: &[Items<Chunk>]) -> Option<u64>
+    ensures { IfSome result (λ count. count ≡ sample_count rows.now) }
+{
+    let mut count = 0;
+    for row in rows {
+        count = add_samples(count, row.as_slice())?;
+    }
+    Some(count)
+}
+
+// How many chunks the rows have. `None` past what a `u64` holds.
+fn count_chunks(rows: &[Items<Chunk>]) -> Option<u64>
+    ensures { IfSome result (λ count. count ≡ sum_by length rows.now) }
+{
+    let mut count: u64 = 0;
+    for row in rows {
+        count = count.checked_add(row.len() as u64)?;
+    }
+    Some(count)
+}
+
+// A row's chunks as the index names them, with their references.
+fn name_chunks(
+    alloc: Global,
+    chunks: &[Chunk],
+    references: &[u64],
+) -> Result<Vec<ChunkMeta>, AllocError>
+    ensures metas { IfOk result (λ metas. metas.items ≡ map meta_of (zip chunks.now references.now)) }
+    ensures fit { IfOk result (λ metas. All FitsChunk metas.items) }
+{
+    let mut metas = Vec::new(alloc);
+    for (chunk, reference) in chunks.iter().zip(references) {
+        metas.push(ChunkMeta {
+            min_time: chunk.min_time,
+            max_time: chunk.max_time,
+            reference: *reference,
+        })?;
+    }
+    Ok(metas)
+}
+
+// Each row's chunks as the index names them, with their references.
+fn name_rows(
+    alloc: Global,
+    rows: &[Items<Chunk>],
+    references: &[Items<u64>],
+) -> Result<Vec<Items<ChunkMeta>>, AllocError>
+    ensures metas { IfOk result (λ metas. metas.items ≡ map named (zip rows.now references.now)) }
+    ensures fit { IfOk result (λ metas. All (All FitsChunk) metas.items) }
+{
+    let mut metas = Vec::new(alloc);
+    for (chunks, row_references) in rows.iter().zip(references) {
+        let row = name_chunks(alloc, chunks.as_slice(), row_references.as_slice())?;
+        metas.push(Items::from_vec(row))?;
+    }
+    Ok(metas)
+}
+
+// The chunk files of some rows, and the rows' chunks as the index names them.
+#[derive(Drop)]
+struct Placed {
+    files: Items<Items<u8>>,
+    metas: Vec<Items<ChunkMeta>>,
+}
+
+// Lays the chunks of the rows into files, and lets go of them.
+fn place_chunks(alloc: Global, rows: Vec<Items<Chunk>>) -> Result<Placed, WriteFault>
+    requires { AreShort rows.items }
+    ensures files { IfOk result (λ placed. placed.files ≡ chunk_files file_limit (all_texts rows.items)) }
+    ensures metas { IfOk result (λ placed. placed.metas.items ≡ metas_in rows.items) }
+    ensures fit { IfOk result (λ placed. All (All FitsChunk) placed.metas.items) }
+    ensures few { IfOk result (λ placed. length placed.files ≤ 2 ^ 32) }
+    ensures large { result ≡ Err WriteFault.TooLarge → 2 ^ 32 < length (chunk_files file_limit (all_texts rows.items)) }
+{
+    let (files, references) = write_chunks(alloc, rows.as_slice(), CHUNK_FILE_LIMIT)?;
+    let metas = name_rows(alloc, &rows, &references)?;
+    Ok(Placed {
+        files: Items::from_vec(files),
+        metas,
+    })
+}
+
+fn index_rows_of(
+    alloc: Global,
+    labels: Vec<LabelSet>,
+    metas: Vec<Items<ChunkMeta>>,
+) -> Result<Vec<IndexRow>, AllocError>
+    ensures { IfOk result (λ rows. rows.items ≡ rows_of_index labels.items metas.items) }
+{
+    labels
+        .into_iter()
+        .zip(metas)
+        .map(|(labels, chunks)| IndexRow { labels, chunks })
+        .collect(alloc)
+}
+
+// Adds the tombstones of one series behind others.
+fn add_tombstones(
+    tombstones: &mut Vec<Tombstone>,
+    series: u64,
+    runs: &[Run],
+) -> Result<(), AllocError>
+    ensures { OnOk result (tombstones.new.items ≡ tombstones.old.items ++ map (λ r. record { series = series; run = r }) runs.now) }
+{
+    for run in runs {
+        tombstones.push(Tombstone { series, run: *run })?;
+    }
+    Ok(())
+}
+
+fn tombstones_of(
+    alloc: Global,
+    ids: &[u32],
+    hidden: &[Items<Run>],
+) -> Result<Vec<Tombstone>, AllocError>
+    ensures { IfOk result (λ tombstones. tombstones.items ≡ tombstones_of_runs ids.now hidden.now) }
+{
+    let mut tombstones = Vec::new(alloc);
+    for (id, runs) in ids.iter().zip(hidden) {
+        add_tombstones(&mut tombstones, u64::from(*id), runs.as_slice())?;
+    }
+    Ok(tombstones)
+}
+
+/// The block of some rows of an hour that is no edge: at least one, in the order of label sets.
+pub(crate) fn write_block(
+    alloc: Global,
+    rows: Vec<CutRow>,
+    hour: Hour,
+    ulid: &Ulid,
+) -> Result<Block, WriteFault>
+    requires rows { AreCutRows hour rows.items }
+    requires whole { IsEdge hour → ⊥ }
+    ensures block { (those : List Row) → rows.items ≡ map in_chunks those → IfOk result (λ block. block ≡ block_text (record { ulid = ulid.now; hour = hour; rows = those })) }
+    ensures fits { (those : List Row) → rows.items ≡ map in_chunks those → IfOk result (λ _. FitsIndex (index_rows those)) }
+    ensures few { IfOk result (λ block. length block.chunks ≤ 2 ^ 32) }
+    ensures large { (those : List Row) → rows.items ≡ map in_chunks those → result ≡ Err WriteFault.TooLarge → FitsIndex (index_rows those) → 2 ^ 32 < length (files_of (samples_of_rows those)) }
+{
+    let Columns {
+        labels,
+        chunks,
+        hidden,
+    } = split_rows(alloc, rows)?;
+    let series = labels.len() as u64;
+    let samples = count_samples(&chunks).ok_or(WriteFault::Memory)?;
+    let chunk_count = count_chunks(&chunks).ok_or(WriteFault::Memory)?;
+    let Placed { files, metas } = place_chunks(alloc, chunks)?;
+    let index_rows = index_rows_of(alloc, labels, metas)?;
+    let index = write_numbered_index(alloc, &index_rows)?;
+    let tombstones = tombstones_of(alloc, index.ids.as_slice(), &hidden)?;
+    let description = Meta {
+        ulid: *ulid,
+        min_time: first_of(hour),
+        max_time: last_of(hour) + 1,
+        samples,
+        series,
+        chunks: chunk_count,
+    };
+    Ok(Block {
+        index: index.text,
+        chunks: files,
+        tombstones: Items::from_vec(write_tombstones(alloc, &tombstones)?),
+        meta: Items::from_vec(write_meta(alloc, &description)?),
+    })
+}

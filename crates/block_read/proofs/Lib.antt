@@ -1,0 +1,11 @@
+pub mod Columns
+pub mod Lists
+pub mod AllRows
+pub mod Apart
+pub mod Ids
+pub mod Joined
+pub mod Named
+pub mod Described
+pub mod Assembled
+pub mod Popped
+pub mod Whole

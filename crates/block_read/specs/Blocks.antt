@@ -1,0 +1,139 @@
+-- The parts of a block.
+use Rattle.std.specs.Prelude.{◌≡◌, ℕ, ℤ, pos, ◌+ℤ◌, ◌-ℤ◌, ◌≤ℤ◌, ◌≤◌, ◌<◌, ◌^◌, List, length, map, All, IsTrue, FitsSigned}
+use Rattle.std.specs.Int.{w64}
+use Rattle.std.specs.List.{flat_map, zip, AllByRecursion}
+use Rattle.std.specs.declared.cmp.Ordering.TheVariants.{Less}
+use Rattle.wal_record.specs.Labels.{IsLabelSet, compare_labels}
+use Rattle.head_column.specs.declared.items.Sample.{Sample}
+use Rattle.head_column.specs.declared.items.Run.{Run}
+use Rattle.head_column.specs.declared.chunk.Chunk.{Chunk}
+use Rattle.head_column.specs.Chunks.{IsFit, chunks_of}
+use Rattle.head_column.specs.Hours.{IsEdge, hour_start, is_in_hour}
+use Rattle.head_column.specs.Runs.{AreApart}
+use Rattle.head_column.specs.Samples.{Rises}
+use Rattle.block_text.specs.Sums.{Text}
+use Rattle.block_index.specs.declared.row.ChunkMeta.{ChunkMeta}
+use Rattle.block_index.specs.declared.row.IndexRow.{IndexRow}
+use Rattle.block_index.specs.Index.{index_text, series_ids}
+use Rattle.block_index.specs.Rows.{FitsIndex, IsChain}
+use Rattle.block_files.specs.declared.meta.Meta.{Meta}
+use Rattle.block_files.specs.declared.tombstones.Tombstone.{Tombstone}
+use Rattle.block_files.specs.Files.{all_texts, chunk_files, references, texts}
+use Rattle.block_files.specs.Meta.{meta_text}
+use Rattle.block_files.specs.Tombstones.{tombstones_text}
+use Rattle.block_files.specs.Ulids.{IsUlid}
+use Rattle.block_read.specs.declared.block.Block.{Block}
+use Rattle.block_read.specs.declared.rows.BlockRow.{BlockRow}
+use Rattle.block_read.specs.declared.rows.BlockRows.{BlockRows}
+
+-- the last time of hour k
+abbrev pub hour_last : ℤ → ℤ
+hour_last k = hour_start (k +ℤ pos 1) -ℤ pos 1
+
+-- the most bytes of a chunk file
+abbrev pub file_limit : ℕ
+file_limit = 536870912
+
+-- the chunks of some rows, whose samples these are: each row's samples cut by 120
+abbrev pub chunks_of_rows : List (List Sample) → List (List Chunk)
+chunks_of_rows samples = map chunks_of samples
+
+-- the chunk files of some rows, whose samples these are
+abbrev pub files_of : List (List Sample) → List Text
+files_of samples = chunk_files file_limit (all_texts (chunks_of_rows samples))
+
+-- a chunk as the index names it: its first time, its last time, and its reference
+abbrev pub meta_of : Chunk × ℕ → ChunkMeta
+meta_of x = record { min_time = x.0.min_time; max_time = x.0.max_time; reference = x.1 }
+
+-- the chunks of each row as the index names them, with the references that the chunk files give them
+unfoldable pub metas_of : List (List Sample) → List (List ChunkMeta)
+metas_of samples =
+    map (λ (x : List Chunk × List ℕ). map meta_of (zip x.0 x.1)) (zip (chunks_of_rows samples) (references file_limit (texts (chunks_of_rows samples))))
+
+abbrev pub samples_of_rows : List BlockRow → List (List Sample)
+samples_of_rows rows = map (λ (r : BlockRow). r.samples) rows
+
+-- The rows of the index: the labels of each row, and its chunks.
+unfoldable pub index_rows : List BlockRow → List IndexRow
+index_rows rows = map (λ (x : BlockRow × List ChunkMeta). record { labels = x.0.labels; chunks = x.1 }) (zip rows (metas_of (samples_of_rows rows)))
+
+-- The tombstones: the hidden runs of each row, in order, with the row's series id.
+unfoldable pub tombstones_of : List ℕ → List (List Run) → List Tombstone
+tombstones_of ids hidden = flat_map (λ (x : ℕ × List Run). map (λ (r : Run). record { series = x.0; run = r }) x.1) (zip ids hidden)
+
+-- What meta.json says: the hour, and how many samples, series and chunks there are.
+abbrev pub description : BlockRows → Meta
+description b = record {
+  ulid = b.ulid;
+  min_time = hour_start b.hour;
+  max_time = hour_start (b.hour +ℤ pos 1);
+  samples = length (flat_map (λ (r : BlockRow). r.samples) b.rows);
+  series = length b.rows;
+  chunks = length (all_texts (chunks_of_rows (samples_of_rows b.rows)));
+}
+
+-- The text of the block of these rows.
+unfoldable pub block_text : BlockRows → Block
+block_text b = record {
+  index = index_text (index_rows b.rows);
+  chunks = files_of (samples_of_rows b.rows);
+  tombstones = tombstones_text (tombstones_of (series_ids (index_rows b.rows)) (map (λ (r : BlockRow). r.hidden) b.rows));
+  meta = meta_text (description b);
+}
+
+-- the run has a time, and all its times are in the hour
+pub record IsWithin (k : ℤ) (r : Run) : Type 0 where
+  pub some : r.min_time ≤ℤ r.max_time
+  pub first : hour_start k ≤ℤ r.min_time
+  pub last : r.max_time ≤ℤ hour_last k
+
+-- What a row of an hour is: a label set, samples in the order of their times, all in the hour and at least one, and hidden runs in the hour that
+-- stand apart.
+pub record IsRowOf (k : ℤ) (row : BlockRow) : Type 0 where
+  pub labels : IsLabelSet row.labels
+  pub some : 0 < length row.samples
+  pub rises : Rises row.samples
+  pub fit : All IsFit row.samples
+  pub within : All (λ (s : Sample). IsTrue (is_in_hour k s.time)) row.samples
+  pub apart : AreApart row.hidden
+  pub hidden_within : All (IsWithin k) row.hidden
+
+-- The parts are the block of these rows: of an hour that is no edge, with a row at least, in the order of label sets, within the limits of an index
+-- and of 2^32 chunk files.
+pub record IsBlockOf (block : Block) (b : BlockRows) : Type 0 where
+  pub ulid : IsUlid b.ulid
+  pub whole : IsEdge b.hour → ⊥
+  pub some : 0 < length b.rows
+  pub each : AllByRecursion (IsRowOf b.hour) b.rows
+  pub ascending : IsChain (λ (a c : BlockRow). compare_labels a.labels c.labels ≡ Less) b.rows
+  pub index_fits : FitsIndex (index_rows b.rows)
+  pub few_files : length block.chunks ≤ 2 ^ 32
+  pub text : block ≡ block_text b
+
+-- ---- what the parts are found to be, one after the other
+
+-- samples of a series: at least one, in the order of their times
+pub record IsColumn (samples : List Sample) : Type 0 where
+  pub some : 0 < length samples
+  pub rises : Rises samples
+  pub fit : All IsFit samples
+
+-- The chunk files are the text of these samples, a list for each row of the index, with the references and the times that the index gives.
+pub record HasSamples (files : List Text) (rows : List IndexRow) (samples : List (List Sample)) : Type 0 where
+  pub each : AllByRecursion IsColumn samples
+  pub files_are : files ≡ files_of samples
+  pub few_files : length files ≤ 2 ^ 32
+  pub named : map (λ (r : IndexRow). r.chunks) rows ≡ metas_of samples
+
+-- the times of the run have 64 bits
+pub record FitsRun (r : Run) : Type 0 where
+  pub min_time : FitsSigned w64 r.min_time
+  pub max_time : FitsSigned w64 r.max_time
+
+-- The tombstones are the text of these runs, a list for each row of the index. Those of a row have a time, ascend, and stand apart.
+pub record HasHidden (tombstones : Text) (rows : List IndexRow) (hidden : List (List Run)) : Type 0 where
+  pub one_each : length hidden ≡ length rows
+  pub apart : AllByRecursion AreApart hidden
+  pub fit : AllByRecursion (All FitsRun) hidden
+  pub text : tombstones ≡ tombstones_text (tombstones_of (series_ids rows) hidden)

@@ -1,0 +1,80 @@
+-- What is read of a block, part by part.
+use Rattle.std.specs.Prelude.{◌≡◌, ℕ, ℤ, pos, ◌+ℤ◌, All, IsTrue, ◌<◌, ◌%◌, ◌<ℤ◌, List, [], ◌∷◌, length, map}
+use Rattle.std.specs.List.{AllByRecursion, flat_map, zip}
+use Rattle.head_column.specs.declared.items.Sample.{Sample}
+use Rattle.head_column.specs.Chunks.{chunk_samples, chunk_text, chunks_of, first_time, last_time}
+use Rattle.block_text.specs.Sums.{Text}
+use Rattle.block_index.specs.declared.row.ChunkMeta.{ChunkMeta}
+use Rattle.head_column.specs.Hours.{IsEdge, hour_start, is_in_hour}
+use Rattle.block_files.specs.declared.meta.Meta.{Meta}
+use Rattle.block_files.specs.Files.{StandsAt, all_texts, chunk_files, row_references, row_texts}
+use Rattle.block_files.specs.Meta.{meta_text}
+use Rattle.block_files.specs.Ulids.{IsUlid}
+use Rattle.head_column.specs.declared.items.Run.{Run}
+use Rattle.head_column.specs.Runs.{AreApart}
+use Rattle.block_files.specs.declared.tombstones.Tombstone.{Tombstone}
+use Rattle.block_files.specs.Tombstones.{tombstones_text}
+use Rattle.block_read.specs.Blocks.{FitsRun, IsWithin, chunks_of_rows, file_limit, meta_of, tombstones_of}
+
+-- at the place that each of these names stands the chunk of the samples beside it
+abbrev pub AreThere : List Text → List ChunkMeta → List (List Sample) → Type 0
+AreThere files [] [] = Unit {0}
+AreThere files [] (p ∷ ps) = ⊥
+AreThere files (m ∷ ms) [] = ⊥
+AreThere files (m ∷ ms) (p ∷ ps) = StandsAt files m.reference (chunk_text p) × AreThere files ms ps
+
+-- a chunk's samples may follow these, which are those of full chunks and have earlier times
+pub record MayFollow (before part : List Sample) : Type 0 where
+  pub full : length before % chunk_samples ≡ 0
+  pub later : 0 < length before → last_time before <ℤ first_time part
+
+-- a row's chunks as the index names them, behind the rows before it
+abbrev pub row_metas : List (List Text) → List Sample → List ChunkMeta
+row_metas before samples = map meta_of (zip (chunks_of samples) (row_references file_limit before (row_texts (chunks_of samples))))
+
+-- the chunk files of these rows of data
+abbrev pub files_with : List (List Text) → List Text
+files_with rows = chunk_files file_limit (flat_map (λ r. r) rows)
+
+-- these runs as tombstones of the series
+abbrev pub entries_of : ℕ → List Run → List Tombstone
+entries_of id runs = map (λ (r : Run). record { series = id; run = r }) runs
+
+-- the first of the tombstones, if there are any, is one of another series
+abbrev pub BeginsOther : ℕ → List Tombstone → Type 0
+BeginsOther id [] = Unit {0}
+BeginsOther id (t ∷ ts) = t.series ≡ id → ⊥
+
+-- The tombstones are the text of these runs, a list for each id. Those of an id have a time, ascend, and stand apart.
+pub record HaveRuns (tombstones : Text) (ids : List ℕ) (hidden : List (List Run)) : Type 0 where
+  pub one_each : length hidden ≡ length ids
+  pub apart : AllByRecursion AreApart hidden
+  pub fit : AllByRecursion (All FitsRun) hidden
+  pub text : tombstones ≡ tombstones_text (tombstones_of ids hidden)
+
+-- what meta.json says of the samples of some rows
+abbrev pub summary : Text → ℤ → List (List Sample) → Meta
+summary ulid hour samples = record {
+  ulid = ulid;
+  min_time = hour_start hour;
+  max_time = hour_start (hour +ℤ pos 1);
+  samples = length (flat_map (λ s. s) samples);
+  series = length samples;
+  chunks = length (all_texts (chunks_of_rows samples));
+}
+
+-- the samples are of the hour
+abbrev pub AreOfHour : ℤ → List Sample → Type 0
+AreOfHour hour samples = All (λ (s : Sample). IsTrue (is_in_hour hour s.time)) samples
+
+-- the runs have times, all of the hour
+abbrev pub AreWithin : ℤ → List Run → Type 0
+AreWithin hour runs = All (IsWithin hour) runs
+
+-- The text is the meta.json of a block with this name, and this hour, which is no edge and has all the samples and runs.
+pub record HasMeta (text : Text) (samples : List (List Sample)) (hidden : List (List Run)) (ulid : Text) (hour : ℤ) : Type 0 where
+  pub is_ulid : IsUlid ulid
+  pub whole : IsEdge hour → ⊥
+  pub within : AllByRecursion (AreOfHour hour) samples
+  pub hidden_within : AllByRecursion (AreWithin hour) hidden
+  pub described : text ≡ meta_text (summary ulid hour samples)

@@ -1,0 +1,19 @@
+//! A block: what its parts are the text of, and reading it back.
+#![tactic(auto)]
+
+mod block;
+mod chunks;
+mod describing;
+mod fault;
+mod hidden;
+mod joining;
+mod reading;
+mod rows;
+mod samples;
+
+pub use block::Block;
+pub use block_files::{BadUlid, Ulid};
+pub use block_index::ReadFault;
+pub use fault::BlockFault;
+pub use reading::read_block;
+pub use rows::{BlockRow, BlockRows};

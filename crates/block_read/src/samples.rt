@@ -1,0 +1,110 @@
+//! The samples of a block, read.
+
+ghost use Rattle.std.specs.Prelude.{◌≡◌, ◌≤◌, ◌^◌, ◌++◌, ◌∷◌, [], List, length, map, Err, IfOk, IsTrue};
+ghost use Rattle.std.specs.List.{zip};
+ghost use Rattle.block_text.specs.Sums.{Text};
+ghost use Rattle.head_column.specs.declared.items.Sample.{Sample as Entry};
+ghost use Rattle.head_column.specs.Chunks.{chunk_samples, chunks_of, parts};
+ghost use Rattle.block_files.specs.Files.{row_texts};
+ghost use Rattle.block_read.specs.Blocks.{HasSamples, IsColumn, file_limit, meta_of};
+ghost use Rattle.block_read.specs.Reading.{AreThere, files_with, row_metas};
+
+use crate::chunks::read_row;
+use crate::fault::PartFault;
+use block_files::{CHUNK_FILE_LIMIT, ChunkFiles};
+use block_index::{ChunkMeta, IndexRow};
+use head_column::{Chunk, Sample};
+use hw_bytes::Items;
+use std::alloc::Global;
+
+// Whether the index names the chunk so.
+fn is_named(meta: &ChunkMeta, chunk: &Chunk, reference: u64) -> bool
+    ensures sound { IsTrue result → meta.now ≡ meta_of (chunk.now, reference) }
+    ensures complete { meta.now ≡ meta_of (chunk.now, reference) → IsTrue result }
+{
+    meta.min_time == chunk.min_time
+        && meta.max_time == chunk.max_time
+        && meta.reference == reference
+}
+
+// Whether the index names the chunks so.
+fn are_named(metas: &[ChunkMeta], chunks: &[Chunk], references: &[u64]) -> bool
+    requires { length references.now ≡ length chunks.now }
+    ensures sound { IsTrue result → metas.now ≡ map meta_of (zip chunks.now references.now) }
+    ensures complete { metas.now ≡ map meta_of (zip chunks.now references.now) → IsTrue result }
+{
+    if metas.len() != chunks.len() {
+        return false;
+    }
+    for i in 0..metas.len() {
+        if !is_named(&metas[i], &chunks[i], references[i]) {
+            return false;
+        }
+    }
+    true
+}
+
+// Whether these files are those.
+fn are_same(files: &[Items<u8>], others: &[Items<u8>]) -> bool
+    ensures sound { IsTrue result → files.now ≡ others.now }
+    ensures complete { files.now ≡ others.now → IsTrue result }
+{
+    if files.len() != others.len() {
+        return false;
+    }
+    for i in 0..files.len() {
+        if files[i].as_slice() != others[i].as_slice() {
+            return false;
+        }
+    }
+    true
+}
+
+// The samples of the chunks that an index row names, written again behind the rows before it.
+fn take_row(
+    alloc: Global,
+    files: &[Items<u8>],
+    again: &mut ChunkFiles,
+    metas: &[ChunkMeta],
+) -> Result<Vec<Sample>, PartFault>
+    requires { again.old.limit ≡ file_limit }
+    ensures limit { again.new.limit ≡ file_limit }
+    ensures column { IfOk result (λ samples. IsColumn samples.items) }
+    ensures written { (before : List (List Text)) → again.old.files ≡ files_with before →
+        IfOk result (λ samples. again.new.files ≡ files_with (before ++ row_texts (chunks_of samples.items) ∷ [])) }
+    ensures named { (before : List (List Text)) → again.old.files ≡ files_with before → IfOk result (λ samples. metas.now ≡ row_metas before samples.items) }
+    ensures only { (samples : List Entry) → IsColumn samples → AreThere files.now metas.now (parts chunk_samples samples) → IfOk result (λ read. read.items ≡ samples) }
+    ensures bad { result ≡ Err PartFault.Bad → (before : List (List Text)) → again.old.files ≡ files_with before →
+        (samples : List Entry) → IsColumn samples → AreThere files.now metas.now (parts chunk_samples samples) → metas.now ≡ row_metas before samples →
+        length (files_with (before ++ row_texts (chunks_of samples) ∷ [])) ≤ 2 ^ 32 → ⊥ }
+{
+    let read = read_row(alloc, files, metas)?;
+    let references = again.add_row(alloc, &read.chunks)?;
+    if !are_named(metas, &read.chunks, &references) {
+        return Err(PartFault::Bad);
+    }
+    Ok(read.samples)
+}
+
+// The samples of a block, a list for each row of its index.
+pub(crate) fn read_samples(
+    alloc: Global,
+    files: &[Items<u8>],
+    rows: &[IndexRow],
+) -> Result<Vec<Items<Sample>>, PartFault>
+    ensures found { IfOk result (λ samples. HasSamples files.now rows.now samples.items) }
+    ensures only { (samples : List (List Entry)) → HasSamples files.now rows.now samples → IfOk result (λ read. read.items ≡ samples) }
+    ensures bad { result ≡ Err PartFault.Bad → (samples : List (List Entry)) → HasSamples files.now rows.now samples → ⊥ }
+{
+    let mut again = ChunkFiles::new(alloc, CHUNK_FILE_LIMIT);
+    let mut samples = Vec::new(alloc);
+    for row in rows {
+        let read = take_row(alloc, files, &mut again, row.chunks.as_slice())?;
+        samples.push(Items::from_vec(read))?;
+    }
+    let written = again.into_files()?;
+    if !are_same(&written, files) {
+        return Err(PartFault::Bad);
+    }
+    Ok(samples)
+}
