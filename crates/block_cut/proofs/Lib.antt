@@ -6,5 +6,6 @@ pub mod Picked
 pub mod Short
 pub mod Spans
 pub mod Written
+pub mod Placing
 mod Worked
 pub mod Found

@@ -1,9 +1,9 @@
 -- The rows of a block's index, and its counts.
-use Rattle.std.proofs.Common.{Bool, true, false, Vec, Global, vec_len, of_z, to_z, ◌≡◌, ℕ, suc, ◌+◌, ◌<◌, List, [], ◌∷◌, length, map, refl, sym, ap, subst, ◌∙◌, arith, All}
-use Rattle.std.specs.Prelude.{ℤ, pos, ◌+ℤ◌, ◌==◌, Option, None, Some, IfSome, Ok, ◌≤ℤ◌, ◌<ℤ◌}
+use Rattle.std.proofs.Common.{Bool, true, false, Vec, Global, vec_len, of_z, to_z, ◌≡◌, ℕ, suc, ◌+◌, ◌<◌, ◌^◌, List, [], ◌∷◌, length, map, refl, sym, ap, subst, ◌∙◌, arith, All}
+use Rattle.std.specs.Prelude.{ℤ, pos, ◌+ℤ◌, ◌==◌, ◌≤ℤ◌, ◌<ℤ◌}
 use Rattle.std.specs.Int.{w64}
-use Rattle.std.specs.Option.{ok_or}
 use Rattle.std.proofs.lemmas.Int.{ints}
+use Rattle.std.specs.Io.Iter.{u64_saturate}
 use Rattle.std.specs.List.{AllByRecursion, AllZip, flat_map, sum_by, zip}
 use Rattle.std.specs.declared.cmp.Ordering.TheVariants.{Less}
 use Rattle.std.proofs.lemmas.List.{length-append, length-map}
@@ -22,12 +22,15 @@ use Rattle.block_text.specs.declared.fault.WriteFault.TheVariants.{TooLarge, Mem
 use Rattle.block_text.specs.Sums.{Text}
 use Rattle.block_index.specs.declared.row.ChunkMeta.{ChunkMeta}
 use Rattle.block_index.specs.declared.row.IndexRow.{IndexRow}
-use Rattle.block_index.specs.Rows.{AreRows, FitsChunk, IsChain, IsRow}
+use Rattle.block_index.specs.Rows.{AreRows, FitsChunk, FitsIndex, IsChain, IsRow}
 use Rattle.block_files.specs.declared.meta.Meta.{Meta}
 use Rattle.block_files.specs.Files.{all_texts, references, row_references, texts}
 use Rattle.block_read.specs.declared.block.Block.{Block}
 use Rattle.block_read.specs.declared.rows.BlockRow.{BlockRow}
 use Rattle.block_read.specs.Blocks.{IsRowOf, chunks_of_rows, file_limit, hour_last, index_rows, meta_of, metas_of, samples_of_rows}
+use Rattle.block_read.proofs.Assembled.{flat_samples}
+use Rattle.block_read.proofs.Few.{are_few}
+use Rattle.block_read.proofs.Named.{index_chunks}
 use Rattle.block_cut.specs.declared.fault.CutFault.TheVariants as cut
 use Rattle.block_cut.specs.declared.rows.CutRow.{CutRow}
 use Rattle.block_cut.specs.Cutting.{chunk_count, in_chunks, index_rows_of, metas_in, named, sample_count}
@@ -141,24 +144,30 @@ index_rows-AreRows k those metas some each up e fit =
 
 -- ---- the counts
 
-pub samples_count : (bs : List BlockRow) → sample_count (chunks_of_rows (samples_of_rows bs)) ≡ length (flat_map (λ (b : BlockRow). b.samples) bs)
+samples_count : (bs : List BlockRow) → sample_count (chunks_of_rows (samples_of_rows bs)) ≡ length (flat_map (λ (b : BlockRow). b.samples) bs)
 samples_count [] = refl
 samples_count (b ∷ bs) =
     sum_by-cons chunk_count (chunks_of b.samples) (chunks_of_rows (samples_of_rows bs)) ∙ ap (λ (n : ℕ). n + sample_count (chunks_of_rows (samples_of_rows bs))) (chunks-count b.samples)
     ∙ ap (λ (n : ℕ). length b.samples + n) (samples_count bs) ∙ sym (length-append b.samples (flat_map (λ (b : BlockRow). b.samples) bs))
 
-pub chunks_count : (rows : List (List Chunk)) → sum_by length rows ≡ length (all_texts rows)
+chunks_count : (rows : List (List Chunk)) → sum_by length rows ≡ length (all_texts rows)
 chunks_count [] = refl
 chunks_count (cs ∷ rows) =
     let long : length (map (λ (c : Chunk). c.text) cs) ≡ length cs = simp length-map in
     sum_by-cons length cs rows ∙ ap (λ (n : ℕ). n + sum_by length rows) (sym long) ∙ ap (λ (n : ℕ). length (map (λ (c : Chunk). c.text) cs) + n) (chunks_count rows)
     ∙ sym (length-append (map (λ (c : Chunk). c.text) cs) (all_texts rows))
 
--- ---- what code makes of them
+-- Where the index fits, no count stays at the greatest.
+pub counts_are : (those : List BlockRow) (chunks : List (List Chunk)) (samples count : ℕ) → FitsIndex (index_rows those) → ((rows : List IndexRow) → FitsIndex rows → sum_by (λ (r : IndexRow). length r.chunks) rows < 2 ^ 37)
+    → chunks ≡ chunks_of_rows (samples_of_rows those) → samples ≡ u64_saturate (sample_count chunks) → count ≡ u64_saturate (sum_by length chunks)
+    → (samples ≡ length (flat_map (λ (b : BlockRow). b.samples) those)) × (count ≡ length (all_texts (chunks_of_rows (samples_of_rows those))))
+counts_are those chunks samples count fits law e f g =
+    let few = are_few (index_rows those) (samples_of_rows those) (index_chunks those) (law (index_rows those) fits) in (
+      omega (arith, f, few.few_samples, ap sample_count e, samples_count those, ap length (flat_samples those)),
+      omega (arith, g, few.few_chunks, ap (sum_by length) e, chunks_count (chunks_of_rows (samples_of_rows those))),
+    )
 
-pub counted_as : {E : Type 0} (o : Option ℕ) (e : E) (n m : ℕ) → IfSome o (λ count. count ≡ m) → ok_or o e ≡ Ok n → n ≡ m
-counted_as None e n m h f = absurd cc
-counted_as (Some k) e n m h f = let is : k ≡ n = cc in sym is ∙ h
+-- ---- what code makes of them
 
 abbrev pub block_of : Text → List Text → Text → Text → Block
 block_of index files stones meta = record { index = index; chunks = files; tombstones = stones; meta = meta }

@@ -155,7 +155,7 @@ fn each_row(
 fn keep_rows(alloc: Global, rows: Vec<Option<CutRow>>) -> Result<Vec<CutRow>, AllocError>
     ensures { IfOk result (λ kept. kept.items ≡ filter_map (λ row. row) rows.items) }
 {
-    rows.into_iter().filter_map(|row| row).collect(alloc)
+    rows.into_iter().flatten().collect(alloc)
 }
 
 fn sort_rows(rows: &mut Vec<CutRow>) -> Result<(), AllocError>

@@ -1,7 +1,8 @@
 //! The parts of a block.
 
-ghost use Rattle.std.specs.Prelude.{◌≡◌, ◌≤◌, ◌<◌, ◌^◌, ◌+◌, ◌++◌, List, Err, OnOk, length, map, All, IfOk, IfSome};
+ghost use Rattle.std.specs.Prelude.{◌≡◌, ◌≤◌, ◌<◌, ◌^◌, ◌+◌, ◌++◌, List, Err, OnOk, length, map, All, IfOk};
 ghost use Rattle.std.specs.List.{sum_by, zip};
+ghost use Rattle.std.specs.Io.Iter.{u64_saturate};
 ghost use Rattle.std.specs.declared.cmp.Ordering.TheVariants.{Less};
 ghost use Rattle.wal_record.specs.Labels.{compare_labels};
 ghost use Rattle.head_column.specs.Hours.{IsEdge};
@@ -9,13 +10,13 @@ ghost use Rattle.block_index.specs.Rows.{FitsChunk, FitsIndex, IsChain};
 ghost use Rattle.block_files.specs.Files.{AreShort, all_texts, chunk_files};
 ghost use Rattle.block_read.specs.declared.rows.BlockRow.{BlockRow as Row};
 ghost use Rattle.block_read.specs.Blocks.{IsRowOf, block_text, file_limit, files_of, index_rows, meta_of, samples_of_rows, tombstones_of as tombstones_of_runs};
-ghost use Rattle.block_cut.specs.Cutting.{AreCutRows, chunk_count, in_chunks, index_rows_of as rows_of_index, metas_in, named, sample_count};
+ghost use Rattle.block_cut.specs.Cutting.{AreCutRows, chunk_count, in_chunks, index_rows_of as rows_of_index, metas_in, sample_count};
 
 use crate::rows::{CutRow, first_of, last_of};
 use block_files::{
-    CHUNK_FILE_LIMIT, Meta, Tombstone, Ulid, write_chunks, write_meta, write_tombstones,
+    CHUNK_FILE_LIMIT, ChunkFiles, Meta, Tombstone, Ulid, write_meta, write_tombstones,
 };
-use block_index::{ChunkMeta, IndexRow, write_numbered_index};
+use block_index::{ChunkMeta, IndexRow, few_chunks, write_numbered_index};
 use block_read::Block;
 use block_text::WriteFault;
 use head_column::{Chunk, Hour, Run};
@@ -52,37 +53,37 @@ fn split_rows(alloc: Global, rows: Vec<CutRow>) -> Result<Columns, AllocError>
     })
 }
 
-// The samples in some chunks, counted on from others. `None` past what a `u64` holds.
-fn add_samples(before: u64, chunks: &[Chunk]) -> Option<u64>
-    ensures { IfSome result (λ count. count ≡ before + chunk_count chunks.now) }
+// The samples in some chunks, counted on from others. A count past 64 bits, which no block has, stays at the greatest.
+fn add_samples(before: u64, chunks: &[Chunk]) -> u64
+    ensures { result ≡ u64_saturate (before + chunk_count chunks.now) }
 {
     let mut count = before;
     for chunk in chunks {
-        count = count.checked_add(chunk.count as u64)?;
+        count = count.saturating_add(chunk.count as u64);
     }
-    Some(count)
+    count
 }
 
-// How many samples the rows have. `None` past what a `u64` holds.
-fn count_samples(rows: &[Items<Chunk>]) -> Option<u64>
-    ensures { IfSome result (λ count. count ≡ sample_count rows.now) }
+// How many samples the rows have.
+fn count_samples(rows: &[Items<Chunk>]) -> u64
+    ensures { result ≡ u64_saturate (sample_count rows.now) }
 {
     let mut count = 0;
     for row in rows {
-        count = add_samples(count, row.as_slice())?;
+        count = add_samples(count, row.as_slice());
     }
-    Some(count)
+    count
 }
 
-// How many chunks the rows have. `None` past what a `u64` holds.
-fn count_chunks(rows: &[Items<Chunk>]) -> Option<u64>
-    ensures { IfSome result (λ count. count ≡ sum_by length rows.now) }
+// How many chunks the rows have.
+fn count_chunks(rows: &[Items<Chunk>]) -> u64
+    ensures { result ≡ u64_saturate (sum_by length rows.now) }
 {
     let mut count: u64 = 0;
     for row in rows {
-        count = count.checked_add(row.len() as u64)?;
+        count = count.saturating_add(row.len() as u64);
     }
-    Some(count)
+    count
 }
 
 // A row's chunks as the index names them, with their references.
@@ -105,23 +106,6 @@ fn name_chunks(
     Ok(metas)
 }
 
-// Each row's chunks as the index names them, with their references.
-fn name_rows(
-    alloc: Global,
-    rows: &[Items<Chunk>],
-    references: &[Items<u64>],
-) -> Result<Vec<Items<ChunkMeta>>, AllocError>
-    ensures metas { IfOk result (λ metas. metas.items ≡ map named (zip rows.now references.now)) }
-    ensures fit { IfOk result (λ metas. All (All FitsChunk) metas.items) }
-{
-    let mut metas = Vec::new(alloc);
-    for (chunks, row_references) in rows.iter().zip(references) {
-        let row = name_chunks(alloc, chunks.as_slice(), row_references.as_slice())?;
-        metas.push(Items::from_vec(row))?;
-    }
-    Ok(metas)
-}
-
 // The chunk files of some rows, and the rows' chunks as the index names them.
 #[derive(Drop)]
 struct Placed {
@@ -129,7 +113,7 @@ struct Placed {
     metas: Vec<Items<ChunkMeta>>,
 }
 
-// Lays the chunks of the rows into files, and lets go of them.
+// Lays the chunks of the rows into files, and lets go of each row before the next, so that no more than one lies there twice.
 fn place_chunks(alloc: Global, rows: Vec<Items<Chunk>>) -> Result<Placed, WriteFault>
     requires { AreShort rows.items }
     ensures files { IfOk result (λ placed. placed.files ≡ chunk_files file_limit (all_texts rows.items)) }
@@ -138,10 +122,15 @@ fn place_chunks(alloc: Global, rows: Vec<Items<Chunk>>) -> Result<Placed, WriteF
     ensures few { IfOk result (λ placed. length placed.files ≤ 2 ^ 32) }
     ensures large { result ≡ Err WriteFault.TooLarge → 2 ^ 32 < length (chunk_files file_limit (all_texts rows.items)) }
 {
-    let (files, references) = write_chunks(alloc, rows.as_slice(), CHUNK_FILE_LIMIT)?;
-    let metas = name_rows(alloc, &rows, &references)?;
+    let mut files = ChunkFiles::new(alloc, CHUNK_FILE_LIMIT);
+    let mut metas = Vec::with_capacity(alloc, rows.len())?;
+    for row in rows {
+        let references = files.add_row(alloc, row.as_slice())?;
+        let row_metas = name_chunks(alloc, row.as_slice(), references.as_slice())?;
+        metas.push(Items::from_vec(row_metas))?;
+    }
     Ok(Placed {
-        files: Items::from_vec(files),
+        files: Items::from_vec(files.into_files()?),
         metas,
     })
 }
@@ -208,11 +197,13 @@ pub(crate) fn write_block(
         hidden,
     } = split_rows(alloc, rows)?;
     let series = labels.len() as u64;
-    let samples = count_samples(&chunks).ok_or(WriteFault::Memory)?;
-    let chunk_count = count_chunks(&chunks).ok_or(WriteFault::Memory)?;
+    let samples = count_samples(&chunks);
+    let chunk_count = count_chunks(&chunks);
     let Placed { files, metas } = place_chunks(alloc, chunks)?;
     let index_rows = index_rows_of(alloc, labels, metas)?;
     let index = write_numbered_index(alloc, &index_rows)?;
+    // for the proof, which learns by this that the counts did not stay at the greatest
+    few_chunks();
     let tombstones = tombstones_of(alloc, index.ids.as_slice(), &hidden)?;
     let description = Meta {
         ulid: *ulid,

@@ -10,12 +10,15 @@ use block_text::put_sum;
 use head_column::Run;
 use hw_bytes::{put_uvarint, put_varint};
 use std::alloc::{AllocError, AllocFailed, Global};
+use std::error::Error;
+use std::fmt;
 
 /// A run of hidden times of a series.
 #[derive(Clone, Copy, Debug, PartialEq, Eq)]
 pub struct Tombstone {
     /// The id of the series in the block's index.
     pub series: u64,
+    /// The hidden times, ends included.
     pub run: Run,
 }
 
@@ -27,6 +30,17 @@ pub enum TombstonesFault {
     /// Memory ran out.
     Memory,
 }
+
+impl fmt::Display for TombstonesFault {
+    fn fmt<W: fmt::Write>(&self, f: &mut fmt::Formatter<W>) -> fmt::Result {
+        f.write_str(match self {
+            TombstonesFault::BadTombstones => "bad tombstones",
+            TombstonesFault::Memory => "out of memory",
+        })
+    }
+}
+
+impl Error for TombstonesFault {}
 
 impl From<AllocError> for TombstonesFault {
     ghost use Rattle.std.specs.Prelude.{◌≡◌};
@@ -129,6 +143,8 @@ pub fn read_tombstones(alloc: Global, bytes: &[u8]) -> Result<Vec<Tombstone>, To
     ensures only { (tombstones : List Entry) → All IsFit tombstones → bytes.now ≡ tombstones_text tombstones → IfOk result (λ read. read.items ≡ tombstones) }
     ensures bad { result ≡ Err TombstonesFault.BadTombstones →
         (tombstones : List Entry) → All IsFit tombstones → bytes.now ≡ tombstones_text tombstones → ⊥ }
+    // Fewer bytes than the magic, the version and the checksum take are refused whatever memory there is.
+    ensures short { length bytes.now < 9 → result ≡ Err TombstonesFault.BadTombstones }
 {
     if bytes.len() < HEAD.len() + SUM_LEN {
         return Err(TombstonesFault::BadTombstones);

@@ -8,7 +8,7 @@ use Rattle.block_index.specs.Gives.{◌>>=◌, must, nothing_left, or_bad, rest_
 use Rattle.block_index.specs.Fields.{Field, chunks_field, first_chunk, fixed, four, four_below, label_entry_field, label_index_done, label_table_done, later, marked, next_chunk, next_chunks, pair_field, postings_done, postings_entry_field, postings_table_done, reference_field, series_field, symbols_field, text_field, times, uvarint_field, varint_field, whole}
 use Rattle.std.specs.List.{list_any}
 use Rattle.block_index.specs.Layout.{is_number, number_at, padding, sums}
-use Rattle.block_index.specs.Reading.{all_elements, are_places, places_of, aligned_at, counted_at, elements, elements_done, filled, framed_at, framed_done, head_of, only_done, only_element, series_element_at, stored_in, summed_at, toc_of}
+use Rattle.block_index.specs.Reading.{all_elements, are_places, places_of, aligned_at, counted_at, elements, elements_done, filled, framed_at, framed_done, front_of, head_of, only_done, only_element, series_element_at, stored_in, summed_at, toc_of}
 
 pub record IsEarly {X : Type 0} (r : Result X ReadFault) : Type 0 where
   pub early : r ≡ Err NotCanonical → ⊥
@@ -221,13 +221,16 @@ toc-early bytes =
     (λ sum. bind (must (are_places (places_of (drop (length bytes - 52) bytes)) (length bytes - 52)) BadToc) _ (musts (are_places (places_of (drop (length bytes - 52) bytes)) (length bytes - 52)) BadToc (λ e. absurd cc))
     (λ order. fine (places_of (drop (length bytes - 52) bytes)))))
 
+front-early : (bytes : List ℕ) → IsEarly (front_of bytes)
+front-early bytes = bind (head_of bytes) _ (head-early bytes) (λ head. toc-early bytes)
+
 pub stored-early : (bytes : List ℕ) → IsEarly (stored_in bytes)
 unfolding stored_in
 stored-early bytes =
-    bind (head_of bytes) _ (head-early bytes) (λ head. bind (toc_of bytes) _ (toc-early bytes) (λ toc.
+    bind (front_of bytes) _ (front-early bytes) (λ toc.
     bind (only_element symbols_field _) _ (only_element-early symbols_field symbols-early _) (λ table.
     bind (all_elements (series_element_at (length table) toc.label_indices) _) _ (elements-early (series_element_at (length table) toc.label_indices) (element-early (length table) toc.label_indices) _ _) (λ stored.
     bind (elements_done (framed_done (label_index_done (length table)) toc.postings) _ _) _ (elements_done-early (framed_done (label_index_done (length table)) toc.postings) (framed_done-early (label_index_done (length table)) (label_index-early (length table)) toc.postings) _ _) (λ indices.
     bind (elements_done (framed_done postings_done toc.label_table) _ _) _ (elements_done-early (framed_done postings_done toc.label_table) (framed_done-early postings_done postings-early toc.label_table) _ _) (λ lists.
     bind (only_done label_table_done _) _ (only_done-early label_table_done label_table-early _) (λ names.
-    bind (only_done postings_table_done _) _ (only_done-early postings_table_done postings_table-early _) (λ pairs. fine _))))))))
+    bind (only_done postings_table_done _) _ (only_done-early postings_table_done postings_table-early _) (λ pairs. fine _)))))))

@@ -30,3 +30,4 @@ pub mod Early
 pub mod Chains
 pub mod StoredLaws
 pub mod Last
+pub mod Few

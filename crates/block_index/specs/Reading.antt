@@ -46,6 +46,12 @@ toc_of bytes =
       order ← must (are_places (places_of (drop end bytes)) end) BadToc
       Ok (places_of (drop end bytes))
 
+-- where the sections are, once the header and the table of contents are passed
+abbrev pub front_of : List ℕ → Result Toc ReadFault
+front_of bytes = do
+  head ← head_of bytes
+  toc_of bytes
+
 -- ---- step 4: one element
 
 -- the zeros that align an element at this place are there, and this follows them
@@ -159,8 +165,7 @@ unfoldable pub stored_in : List ℕ → Result (List Text × List Stored) ReadFa
 stored_in bytes =
     let end = length bytes - 52 in
     do
-      head ← head_of bytes
-      toc ← toc_of bytes
+      toc ← front_of bytes
       table ← only_element symbols_field (between toc.symbols toc.series bytes)
       stored ← all_elements (series_element_at (length table) toc.label_indices) (between toc.series toc.label_indices bytes)
       label_indices ← elements_done (framed_done (label_index_done (length table)) toc.postings) (length (between toc.label_indices toc.postings bytes)) (between toc.label_indices toc.postings bytes)

@@ -1,7 +1,6 @@
 //! The steps before the sections.
 
 ghost use Rattle.std.specs.Prelude.{◌≡◌, ◌≤◌, ◌-◌, length, drop, Some, true, IfOk, IsOk};
-ghost use Rattle.block_index.specs.Gives.{Gives};
 ghost use Rattle.block_index.specs.Reading.{head_of, toc_of, places_of as places_in, are_places};
 
 use crate::fault::ReadFault;
@@ -12,7 +11,7 @@ use hw_bytes::{be32_at, be64_at};
 // The magic and the version are there.
 #[tactic(auto, unfolding(crate::specs::Reading::head_of))]
 pub(crate) fn head(bytes: &[u8]) -> Result<(), ReadFault>
-    ensures { Gives (λ x. x) result (head_of bytes.now) }
+    ensures { result ≡ head_of bytes.now }
 {
     match be32_at(bytes) {
         None => return Err(ReadFault::BadMagic),
@@ -65,7 +64,7 @@ fn is_ordered(toc: Toc, stop: u64) -> bool
 // The places of the sections.
 #[tactic(auto, unfolding(crate::specs::Reading::toc_of))]
 pub(crate) fn toc(bytes: &[u8]) -> Result<Toc, ReadFault>
-    ensures gives { Gives (λ t. t) result (toc_of bytes.now) }
+    ensures found { result ≡ toc_of bytes.now }
     ensures long { IsOk result → 57 ≤ length bytes.now }
     ensures ordered { IfOk result (λ t. are_places t (length bytes.now - 52) ≡ true) }
 {

@@ -8,6 +8,7 @@ mod fields;
 mod gathering;
 mod groups;
 mod head;
+mod laws;
 mod lists;
 mod ordering;
 mod passed;
@@ -23,6 +24,7 @@ mod writer;
 
 pub use block_text::WriteFault;
 pub use fault::ReadFault;
+pub use laws::few_chunks;
 pub use row::{ChunkMeta, IndexRow};
 pub use whole::{
     NumberedIndex, NumberedRows, read_index, read_numbered_index, write_index, write_numbered_index,

@@ -1,8 +1,8 @@
 //! The steps before an index is known to be canonical.
 
-ghost use Rattle.std.specs.Prelude.{◌≡◌, ◌≤◌, length, map};
+ghost use Rattle.std.specs.Prelude.{◌≡◌, ◌≤◌, length, map, Err};
 ghost use Rattle.block_index.specs.Gives.{Gives, nows};
-ghost use Rattle.block_index.specs.Reading.{between as between_in, stored_in};
+ghost use Rattle.block_index.specs.Reading.{between as between_in, front_of, stored_in};
 ghost use Rattle.block_index.specs.Stored.{stored};
 
 use crate::fault::ReadFault;
@@ -28,7 +28,8 @@ pub(crate) fn stored_index(
     alloc: Global,
     bytes: &[u8],
 ) -> Result<(Vec<&[u8]>, Vec<StoredSeries>), ReadFault>
-    ensures { Gives (λ x. (nows x.0.items, map stored x.1.items)) result (stored_in bytes.now) }
+    ensures gives { Gives (λ x. (nows x.0.items, map stored x.1.items)) result (stored_in bytes.now) }
+    ensures front { (fault : ReadFault) → front_of bytes.now ≡ Err fault → result ≡ Err fault }
 {
     head(bytes)?;
     let toc = toc(bytes)?;

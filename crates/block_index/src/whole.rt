@@ -4,7 +4,7 @@ ghost use Rattle.std.specs.Prelude.{◌≡◌, ◌⊎◌, List, Err, IfOk, IfErr
 ghost use Rattle.block_index.specs.declared.row.IndexRow.{IndexRow as Row};
 ghost use Rattle.block_index.specs.Index.{index_text, series_ids};
 ghost use Rattle.block_index.specs.Rows.{AreRows, FitsIndex, IsIndex};
-ghost use Rattle.block_index.specs.Reading.{Answers, row_of as row_in};
+ghost use Rattle.block_index.specs.Reading.{Answers, front_of, row_of as row_in};
 ghost use Rattle.block_index.specs.Gives.{nows};
 ghost use Rattle.block_index.specs.Stored.{stored};
 
@@ -137,20 +137,23 @@ pub fn read_numbered_index(alloc: Global, bytes: &[u8]) -> Result<NumberedRows, 
     ensures ids { IfOk result (λ read. read.ids ≡ series_ids read.rows) }
     ensures only { (rows : List Row) → IsIndex bytes.now rows → IfOk result (λ read. read.rows ≡ rows) }
     ensures refuses { (rows : List Row) → IsIndex bytes.now rows → IfErr result (λ fault. fault ≡ ReadFault.Memory) }
-    // Which fault it is.
+    // Which fault it is. Those of the header and of the table of contents are told whatever memory there is.
     ensures fault { IfErr result (λ fault. Answers bytes.now fault) }
+    ensures front { (fault : ReadFault) → front_of bytes.now ≡ Err fault → result ≡ Err fault }
 {
     let (symbols, series) = stored_index(alloc, bytes)?;
     canonical(alloc, symbols.as_slice(), series.as_slice(), bytes)
 }
 
 /// The rows whose index the bytes are, as `read_numbered_index` gives them. The first fault that is met is answered: `BadMagic`,
-/// `BadVersion`, `BadToc`, then `BadSum` or `BadSection` in the order of the sections, then `NotCanonical`.
+/// `BadVersion`, `BadToc`, then `BadSum` or `BadSection` in the order of the sections, then `NotCanonical`. The first three are told whatever
+/// memory there is.
 pub fn read_index(alloc: Global, bytes: &[u8]) -> Result<Vec<IndexRow>, ReadFault>
     ensures found { IfOk result (λ rows. IsIndex bytes.now rows.items) }
     ensures only { (rows : List Row) → IsIndex bytes.now rows → IfOk result (λ read. read.items ≡ rows) }
     ensures refuses { (rows : List Row) → IsIndex bytes.now rows → IfErr result (λ fault. fault ≡ ReadFault.Memory) }
     ensures fault { IfErr result (λ fault. Answers bytes.now fault) }
+    ensures front { (fault : ReadFault) → front_of bytes.now ≡ Err fault → result ≡ Err fault }
 {
     Ok(read_numbered_index(alloc, bytes)?.rows.into_vec())
 }

@@ -35,7 +35,7 @@ along_at g [] i d e lt = absurd (omega (arith, lt))
 along_at g (x ∷ xs) zero d e lt = refl
 along_at g (x ∷ xs) (suc i) d e lt = along_at (λ b y. g (x ∷ b) y) xs i d e (omega (arith, lt))
 
-metas_along : (samples : List (List Sample)) → metas_of samples ≡ along (λ before s. row_metas (texts (chunks_of_rows before)) s ∷ []) samples
+pub metas_along : (samples : List (List Sample)) → metas_of samples ≡ along (λ before s. row_metas (texts (chunks_of_rows before)) s ∷ []) samples
 unfolding metas_of
 metas_along samples =
     ap (map (λ (x : List Chunk × List ℕ). map meta_of (zip x.0 x.1))) (zip_along chunks_of row_texts (row_references file_limit) samples)

@@ -88,7 +88,7 @@ hidden_of block b h = record {
   text = ap (λ (x : Block). x.tombstones) h.text;
 }
 
-flat_samples : (rows : List BlockRow) → flat_map (λ (r : BlockRow). r.samples) rows ≡ flat_map (λ s. s) (samples_of_rows rows)
+pub flat_samples : (rows : List BlockRow) → flat_map (λ (r : BlockRow). r.samples) rows ≡ flat_map (λ s. s) (samples_of_rows rows)
 flat_samples [] = refl
 flat_samples (r ∷ rows) = ap (λ (t : List Sample). r.samples ++ t) (flat_samples rows)
 

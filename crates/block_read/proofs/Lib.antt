@@ -9,3 +9,4 @@ pub mod Described
 pub mod Assembled
 pub mod Popped
 pub mod Whole
+pub mod Few

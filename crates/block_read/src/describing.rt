@@ -1,7 +1,8 @@
 //! What a block says of itself, read.
 
-ghost use Rattle.std.specs.Prelude.{◌≡◌, ◌<◌, ℤ, pos, ◌+ℤ◌, List, length, Err, IfOk, IsTrue};
+ghost use Rattle.std.specs.Prelude.{◌≡◌, ◌<◌, ◌^◌, ℤ, pos, ◌+ℤ◌, List, length, Err, IfOk, IsTrue};
 ghost use Rattle.std.specs.List.{AllByRecursion, flat_map};
+ghost use Rattle.std.specs.Io.Iter.{u64_saturate};
 ghost use Rattle.block_text.specs.Sums.{Text};
 ghost use Rattle.head_column.specs.Hours.{IsEdge, hour_start, is_in_hour};
 ghost use Rattle.block_files.specs.Files.{all_texts};
@@ -108,25 +109,19 @@ fn has_rows(span: Span, samples: &[Items<Sample>], hidden: &[Items<Run>]) -> boo
     true
 }
 
-// How many samples there are, and how many chunks. Where there are too many to count, memory has run out.
-fn counts_of(samples: &[Items<Sample>]) -> Result<(u64, u64), PartFault>
-    ensures counts { IfOk result (λ counts. (counts.0 ≡ length (flat_map (λ s. s) samples.now)) × (counts.1 ≡ length (all_texts (chunks_of_rows samples.now)))) }
-    ensures fault { result ≡ Err PartFault.Bad → ⊥ }
+// How many samples there are, and how many chunks. A count past 64 bits, which no block has, stays at the greatest.
+fn counts_of(samples: &[Items<Sample>]) -> (u64, u64)
+    ensures samples { result.0 ≡ u64_saturate (length (flat_map (λ s. s) samples.now)) }
+    ensures chunks { result.1 ≡ u64_saturate (length (all_texts (chunks_of_rows samples.now))) }
 {
     let mut count = 0u64;
     let mut chunks = 0u64;
     for row in samples {
         let parts = row.len().div_ceil(CHUNK_SAMPLES);
-        let Some(more) = count.checked_add(row.len() as u64) else {
-            return Err(PartFault::Memory);
-        };
-        let Some(further) = chunks.checked_add(parts as u64) else {
-            return Err(PartFault::Memory);
-        };
-        count = more;
-        chunks = further;
+        count = count.saturating_add(row.len() as u64);
+        chunks = chunks.saturating_add(parts as u64);
     }
-    Ok((count, chunks))
+    (count, chunks)
 }
 
 // The hour of the first sample.
@@ -146,12 +141,14 @@ fn describe(
     hour: Hour,
     samples: &[Items<Sample>],
 ) -> Result<Vec<u8>, PartFault>
-    requires { IsEdge hour → ⊥ }
+    requires whole { IsEdge hour → ⊥ }
+    requires few_samples { length (flat_map (λ s. s) samples.now) < 2 ^ 64 }
+    requires few_chunks { length (all_texts (chunks_of_rows samples.now)) < 2 ^ 64 }
     ensures text { IfOk result (λ text. text.items ≡ meta_text (summary ulid hour samples.now)) }
     ensures fault { result ≡ Err PartFault.Bad → ⊥ }
 {
     let span = span_of(hour);
-    let (count, chunks) = counts_of(samples)?;
+    let (count, chunks) = counts_of(samples);
     let meta = Meta {
         ulid,
         min_time: span.start,
@@ -173,6 +170,8 @@ pub(crate) fn read_meta(
 ) -> Result<(Ulid, Hour), PartFault>
     requires some { 0 < length samples.now }
     requires each { AllByRecursion IsColumn samples.now }
+    requires few_samples { length (flat_map (λ s. s) samples.now) < 2 ^ 64 }
+    requires few_chunks { length (all_texts (chunks_of_rows samples.now)) < 2 ^ 64 }
     ensures found { IfOk result (λ read. HasMeta bytes.now samples.now hidden.now read.0 read.1) }
     ensures only { (ulid : Text) (hour : ℤ) → HasMeta bytes.now samples.now hidden.now ulid hour → IfOk result (λ read. (read.0 ≡ ulid) × (read.1 ≡ hour)) }
     ensures bad { result ≡ Err PartFault.Bad → (ulid : Text) (hour : ℤ) → HasMeta bytes.now samples.now hidden.now ulid hour → ⊥ }

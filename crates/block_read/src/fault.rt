@@ -32,25 +32,12 @@ pub(crate) enum PartFault {
     Memory,
 }
 
-// The name of a fault of an index.
-fn name_of(fault: ReadFault) -> &'static str {
-    match fault {
-        ReadFault::BadMagic => "BadMagic",
-        ReadFault::BadVersion => "BadVersion",
-        ReadFault::BadToc => "BadToc",
-        ReadFault::BadSum => "BadSum",
-        ReadFault::BadSection => "BadSection",
-        ReadFault::NotCanonical => "NotCanonical",
-        ReadFault::Memory => "Memory",
-    }
-}
-
 impl fmt::Display for BlockFault {
     fn fmt<W: fmt::Write>(&self, f: &mut fmt::Formatter<W>) -> fmt::Result {
         match self {
             BlockFault::Index(fault) => {
                 f.write_str("bad index ")?;
-                f.write_str(name_of(*fault))
+                fault.fmt(f)
             }
             BlockFault::BadChunks => f.write_str("bad chunks"),
             BlockFault::BadTombstones => f.write_str("bad tombstones"),

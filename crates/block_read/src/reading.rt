@@ -5,10 +5,11 @@ ghost use Rattle.head_column.specs.declared.items.Run.{Run as HiddenRun};
 ghost use Rattle.head_column.specs.declared.items.Sample.{Sample as Entry};
 ghost use Rattle.block_index.specs.declared.fault.ReadFault.{ReadFault};
 ghost use Rattle.block_index.specs.declared.row.IndexRow.{IndexRow as Row};
-ghost use Rattle.block_index.specs.Reading.{Answers};
+ghost use Rattle.block_index.specs.Reading.{Answers, front_of};
 ghost use Rattle.block_index.specs.Rows.{IsIndex};
 ghost use Rattle.block_read.specs.declared.rows.BlockRows.{BlockRows as Rows};
 ghost use Rattle.block_read.specs.Blocks.{HasHidden, HasSamples, IsBlockOf};
+ghost use Rattle.block_read.specs.Faults.{of_index};
 
 use crate::block::Block;
 use crate::describing::read_meta;
@@ -17,7 +18,7 @@ use crate::hidden::read_hidden;
 use crate::joining::join_rows;
 use crate::rows::BlockRows;
 use crate::samples::read_samples;
-use block_index::read_numbered_index;
+use block_index::{few_chunks, read_numbered_index};
 use hw_bytes::Items;
 use std::alloc::Global;
 
@@ -32,7 +33,8 @@ pub fn read_block(alloc: Global, block: &Block) -> Result<BlockRows, BlockFault>
     ensures only { (rows : Rows) → IsBlockOf block.now rows → IfOk result (λ read. read ≡ rows) }
     ensures refuses { (rows : Rows) → IsBlockOf block.now rows → IfErr result (λ fault. fault ≡ BlockFault.Memory) }
 
-    // Which fault it is.
+    // Which fault it is. Those of the index's header and of its table of contents are told whatever memory there is.
+    ensures front { (fault : ReadFault) → front_of block.now.index ≡ Err fault → result ≡ Err (of_index fault) }
     ensures bad_index { (fault : ReadFault) → result ≡ Err (BlockFault.Index fault) → Answers block.now.index fault × (fault ≡ ReadFault.Memory → ⊥) }
     ensures bad_chunks { result ≡ Err BlockFault.BadChunks →
         (index : List Row) × IsIndex block.now.index index × ((samples : List (List Entry)) → HasSamples block.now.chunks index samples → ⊥) }
@@ -54,6 +56,8 @@ pub fn read_block(alloc: Global, block: &Block) -> Result<BlockRows, BlockFault>
         Err(PartFault::Bad) => return Err(BlockFault::BadTombstones),
         Err(PartFault::Memory) => return Err(BlockFault::Memory),
     };
+    // for the proof, which learns by this that the chunks and the samples can be counted
+    few_chunks();
     let (ulid, hour) = match read_meta(alloc, block.meta.as_slice(), &samples, &hidden) {
         Ok(meta) => meta,
         Err(PartFault::Bad) => return Err(BlockFault::BadMeta),

@@ -48,7 +48,7 @@ pub enum Fault {
     #[error("{0}")]
     Damage(DamageLine),
     /// The index of a block is none.
-    #[error("bad index {0:?}")]
+    #[error("bad index {0}")]
     BadIndex(ReadFault),
     /// The chunk files of a block are not those of its index.
     #[error("bad chunks")]

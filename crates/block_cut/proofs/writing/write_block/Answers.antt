@@ -2,21 +2,22 @@ use Rattle.std.proofs.Common.{◌≡◌, ◌<◌, ◌^◌, ℕ, List, arith, len
 use Rattle.std.specs.Prelude.{Err}
 use Rattle.std.specs.Int.{w64}
 use Rattle.std.specs.List.{sum_by}
+use Rattle.std.specs.Io.Iter.{u64_saturate}
 use Rattle.std.proofs.lemmas.Int.{to_z-of_z}
 use Rattle.std.proofs.lemmas.List.{length-map}
 use Rattle.std.proofs.lemmas.Result.{err_from_is_err_and}
 use Rattle.head_column.specs.declared.chunk.Chunk.{Chunk}
-use Rattle.block_text.specs.declared.fault.WriteFault.TheVariants.{Memory, TooLarge}
+use Rattle.block_text.specs.declared.fault.WriteFault.TheVariants.{TooLarge}
 use Rattle.block_index.specs.Rows.{AreRows, FitsIndex}
 use Rattle.block_files.specs.Files.{AreShort, all_texts, chunk_files}
 use Rattle.block_files.specs.Tombstones.{tombstones_text}
 use Rattle.block_index.specs.Index.{index_text, series_ids}
-use Rattle.block_read.specs.Blocks.{block_text, chunks_of_rows, file_limit, index_rows, samples_of_rows, tombstones_of}
+use Rattle.block_read.specs.Blocks.{block_text, file_limit, index_rows, samples_of_rows, tombstones_of}
 use Rattle.block_files.specs.Meta.{meta_text}
 use Rattle.block_read.specs.declared.rows.BlockRow.{BlockRow}
 use Rattle.block_cut.specs.Cutting.{sample_count}
 use Rattle.block_cut.proofs.Short.{chunks-short}
-use Rattle.block_cut.proofs.Written.{chunks_count, chunks_from, counted_as, hidden_from, index_rows-AreRows, index_rows_are, labels_from, metas_from, past_last, same_block, same_meta, samples_count}
+use Rattle.block_cut.proofs.Written.{chunks_from, counts_are, hidden_from, index_rows-AreRows, index_rows_are, labels_from, metas_from, past_last, same_block, same_meta}
 use Rattle.block_cut.proofs.writing.write_block.Goals as goal
 
 pub place_chunks-requires : goal.place_chunks-requires
@@ -71,11 +72,9 @@ returns-clause-block c = λ those cut.
     ∙ ap (tombstones_of (series_ids (index_rows those))) (c.deref-4.ensures.value ∙ hidden)) in
     let first = to_z-of_z w64 c.first_of.result (record { sfits = c.first_of.type_inv }) ∙ c.first_of.ensures in
     let end = past_last c.args.hour c.last_of.result c.requires.whole c.last_of.ensures in
-    let samples = counted_as c.count_samples.result Memory c.in_ok-samples.samples (sample_count c.deref.result.now) c.count_samples.ensures (sym c.ok_or.ensures.value ∙ c.in_ok-samples.was)
-    ∙ ap sample_count (c.deref.ensures.value ∙ chunks) ∙ samples_count those in
+    let counts = counts_are those c.in_ok-labels.field-0.chunks.items c.count_samples-samples.result c.count_chunks-chunk_count.result (subst FitsIndex index c.in_ok-index.ensures.fits) c.few_chunks.ensures chunks
+    (c.count_samples-samples.ensures ∙ ap (λ (rows : List (List Chunk)). u64_saturate (sample_count rows)) c.deref.ensures.value) (c.count_chunks-chunk_count.ensures ∙ ap (λ (rows : List (List Chunk)). u64_saturate (sum_by length rows)) c.deref-2.ensures.value) in
     let long : length (map (λ (b : BlockRow). b.labels) those) ≡ length those = simp length-map in
     let series : c.len-series.result ≡ length those = omega (arith, c.len-series.ensures, ap length labels, long) in
-    let count = counted_as c.count_chunks.result Memory c.in_ok-chunk_count.chunk_count (sum_by length c.deref-2.result.now) c.count_chunks.ensures (sym c.ok_or-2.ensures.value ∙ c.in_ok-chunk_count.was)
-    ∙ ap (sum_by length) (c.deref-2.ensures.value ∙ chunks) ∙ chunks_count (chunks_of_rows (samples_of_rows those)) in
     same_block _ _ _ _ _ _ _ _ (c.in_ok-index.ensures.text ∙ ap index_text index) (files ∙ ap (λ (rows : List (List Chunk)). chunk_files file_limit (all_texts rows)) chunks) stones
-    (c.from_vec-2.ensures ∙ c.in_ok-write_meta.ensures ∙ ap meta_text (same_meta c.args.ulid.now _ _ _ _ _ _ _ _ _ _ first end samples series count))
+    (c.from_vec-2.ensures ∙ c.in_ok-write_meta.ensures ∙ ap meta_text (same_meta c.args.ulid.now _ _ _ _ _ _ _ _ _ _ first end counts.0 series counts.1))

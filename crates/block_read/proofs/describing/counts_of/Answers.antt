@@ -6,7 +6,5 @@ pub loop-row-preserved : goal.loop-row-preserved
 loop-row-preserved c =
     let s = samples_more c.args.samples.now c.loop-row.row-index c.row-item.result c.loop-row-test.true c.row-item.is in
     let k = chunks_more c.args.samples.now c.loop-row.row-index c.row-item.result c.loop-row-test.true c.row-item.is in
-    let more = c.in-Some.ensures {u = tt} in
-    let further = c.in-Some-checked_add.ensures {u = tt} in
     let parts = c.div_ceil-parts.ensures ∙ ap (λ n. n / 120 + min 1 (n % 120)) c.len.ensures in
-    (omega (arith, more.1, c.len-in-loop-row.ensures, c.loop-row.invariant.0, s), omega (arith, further.1, parts, c.loop-row.invariant.1, k))
+    (omega (arith, c.loop-row.invariant.0, c.saturating_add-count.ensures, s), omega (arith, c.loop-row.invariant.1, c.saturating_add-chunks.ensures, parts, k))

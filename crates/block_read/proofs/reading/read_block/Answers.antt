@@ -8,6 +8,7 @@ use Rattle.block_read.specs.declared.rows.BlockRow.{BlockRow}
 use Rattle.block_read.specs.Blocks.{index_rows, samples_of_rows}
 use Rattle.block_read.proofs.AllRows.{as_many}
 use Rattle.block_read.proofs.Assembled.{hidden_of_rows, index_of}
+use Rattle.block_read.proofs.Few.{read_few}
 use Rattle.block_read.proofs.Ids.{ids_ascend, ids_count}
 use Rattle.block_read.proofs.Whole.{block_found, refused, samples_are, hidden_are, hidden_have, hidden_were, index_was, meta_were, rows_were, samples_were}
 use Rattle.block_read.proofs.reading.read_block.Goals as goal
@@ -46,11 +47,21 @@ returns-in-Err-Bad-read_hidden-clause-bad_tombstones c = λ e. (
       (hidden_have c.args.block.now.tombstones c.in_ok-index.index.rows c.as_slice-4.result.now c.as_slice-5.result.now hidden c.as_slice-4.ensures (c.as_slice-5.ensures ∙ c.in_ok-index.ensures.ids) h),
 )
 
--- src/reading.rt:57:30
+-- src/reading.rt:59:30
 pub read_meta-requires-clause-some : goal.read_meta-requires-clause-some
 read_meta-requires-clause-some c = omega (arith, c.in_ok-index.ensures.found.rows_are.some, as_many c.as_slice-2.result.now c.as_slice-3.result.now c.in-Ok.samples.items c.in-Ok.ensures.found, ap length c.as_slice-3.ensures, ap length c.deref.ensures.value)
 
--- src/reading.rt:59:32
+-- src/reading.rt:59:30
+pub read_meta-requires-clause-few_samples : goal.read_meta-requires-clause-few_samples
+read_meta-requires-clause-few_samples c =
+    (read_few c.as_slice-2.result.now c.in_ok-index.index.rows c.as_slice-3.result.now c.in-Ok.samples.items c.deref.result.now c.as_slice-3.ensures c.deref.ensures.value c.in-Ok.ensures.found (c.few_chunks.ensures c.in_ok-index.index.rows c.in_ok-index.ensures.found.fits)).few_samples
+
+-- src/reading.rt:59:30
+pub read_meta-requires-clause-few_chunks : goal.read_meta-requires-clause-few_chunks
+read_meta-requires-clause-few_chunks c =
+    (read_few c.as_slice-2.result.now c.in_ok-index.index.rows c.as_slice-3.result.now c.in-Ok.samples.items c.deref.result.now c.as_slice-3.ensures c.deref.ensures.value c.in-Ok.ensures.found (c.few_chunks.ensures c.in_ok-index.index.rows c.in_ok-index.ensures.found.fits)).few_chunks
+
+-- src/reading.rt:61:32
 pub returns-in-Err-Bad-read_meta-clause-refuses : goal.returns-in-Err-Bad-read_meta-clause-refuses
 returns-in-Err-Bad-read_meta-clause-refuses c = λ rows h.
     let index = index_was c.args.block.now rows c.as_slice.result.now c.in_ok-index.index.rows c.as_slice.ensures c.in_ok-index.ensures.only h in
@@ -59,7 +70,7 @@ returns-in-Err-Bad-read_meta-clause-refuses c = λ rows h.
     absurd (c.in-Err-Bad-read_meta.ensures.bad (ap Err c.in-Err-Bad-read_meta.field-0-is) rows.ulid rows.hour
     (meta_were c.args.block.now rows c.as_slice-6.result.now c.deref.result.now c.deref-2.result.now c.as_slice-6.ensures (c.deref.ensures.value ∙ samples) (c.deref-2.ensures.value ∙ hidden) h))
 
--- src/reading.rt:59:32
+-- src/reading.rt:61:32
 pub returns-in-Err-Bad-read_meta-clause-bad_meta :
     goal.returns-in-Err-Bad-read_meta-clause-bad_meta
 returns-in-Err-Bad-read_meta-clause-bad_meta c = λ e. (
@@ -77,11 +88,11 @@ returns-in-Err-Bad-read_meta-clause-bad_meta c = λ e. (
       (meta_were c.args.block.now rows c.as_slice-6.result.now c.deref.result.now c.deref-2.result.now c.as_slice-6.ensures (c.deref.ensures.value ∙ samples) (c.deref-2.ensures.value ∙ hidden) h),
 )
 
--- src/reading.rt:62:20
+-- src/reading.rt:64:20
 pub join_rows-requires-clause-samples : goal.join_rows-requires-clause-samples
 join_rows-requires-clause-samples c = as_many _ _ _ c.in-Ok.ensures.found ∙ cc
 
--- src/reading.rt:62:20
+-- src/reading.rt:64:20
 pub join_rows-requires-clause-hidden : goal.join_rows-requires-clause-hidden
 join_rows-requires-clause-hidden c = c.in-Ok-read_hidden.ensures.found.one_each ∙ ap length (c.as_slice-5.ensures ∙ c.in_ok-index.ensures.ids) ∙ ids_count c.in_ok-index.index.rows ∙ cc
 
