@@ -13,6 +13,8 @@ invariant_of-self-in-Stone c =
     (c.self.invariant.0, subst AreApart (sym c.in_ok-merge-in-Stone.ensures.merged) (AreApart-with_run _ _ c.self.invariant.1 (record { some = omega (arith, ints) })), c.self.invariant.2)
 
 pub invariant_of-self-in-Sample : goal.invariant_of-self-in-Sample
-invariant_of-self-in-Sample c =
-    (subst Rises (sym c.in_ok-push-in-Sample.ensures.items) (Rises-push _ _ c.self.invariant.0 (grind (arith, to_z-of_z, c.if-has_reached.ensures))), c.self.invariant.1,
-    subst (All IsFit) (sym c.in_ok-push-in-Sample.ensures.items) (All-push IsFit _ _ c.self.invariant.2 c.fit_copy.ensures.fit))
+invariant_of-self-in-Sample c = (
+  subst Rises (sym c.in_ok-push-in-Sample.ensures.items) (Rises-push _ _ c.self.invariant.0 (grind (arith, to_z-of_z, c.if-has_reached.ensures))),
+  c.self.invariant.1,
+  subst (All IsFit) (sym c.in_ok-push-in-Sample.ensures.items) (All-push IsFit _ _ c.self.invariant.2 c.fit_copy.ensures.fit),
+)
