@@ -1,17 +1,27 @@
 //! Laws of the definitions.
 
-ghost use Rattle.std.specs.Prelude.{◌≡◌, ℤ};
+ghost use Rattle.std.specs.Prelude.{◌≡◌, ℤ, List, Option};
 ghost use Rattle.wal_log.specs.Inputs.{Files};
+ghost use Rattle.wal_log.specs.Log.{IsReading, contents};
+ghost use Rattle.wal_log.specs.declared.reading.Damage.{Damage as LogDamage};
+ghost use Rattle.wal_log.specs.declared.reading.Placed.{Placed as PlacedRecord};
+ghost use Rattle.head_core.specs.Content.{Content, IsContentOf};
 ghost use Rattle.block_text.specs.Sums.{Text};
 ghost use Rattle.block_read.specs.declared.block.Block.{Block as Parts};
+ghost use Rattle.block_read.specs.Blocks.{IsBlockOf};
 ghost use Rattle.block_cut.specs.Logs.{IsBlockOfLog};
+ghost use Rattle.block_cut.specs.Rows.{rows_of};
 
 use head_core::one_content;
 use wal_log::one_reading;
 
-/// The bytes of a log decide every byte of its blocks: an hour of a log has at most one block under a name.
+/// The bytes of a log decide every byte of its blocks: what `replay_serial` says of a log and what `cut` says of its head make the block that
+/// of the log (`made`), and an hour of a log has at most one block under a name (`one`).
 pub fn one_block()
-    ensures { (log : Files) (hour : ℤ) (ulid : Text) (a b : Parts) → IsBlockOfLog log hour ulid a → IsBlockOfLog log hour ulid b → a ≡ b }
+    ensures made { (log : Files) (hour : ℤ) (ulid : Text) (records : List PlacedRecord) (damage : Option LogDamage) (content : Content) (block : Parts) →
+        IsReading log records damage → IsContentOf (contents records) content → IsBlockOf block (record { ulid = ulid; hour = hour; rows = rows_of hour content }) →
+        IsBlockOfLog log hour ulid block }
+    ensures one { (log : Files) (hour : ℤ) (ulid : Text) (a b : Parts) → IsBlockOfLog log hour ulid a → IsBlockOfLog log hour ulid b → a ≡ b }
 {
     // the laws that it rests on, for the proof
     one_reading();

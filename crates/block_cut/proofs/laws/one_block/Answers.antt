@@ -15,8 +15,11 @@ unfolding rows_of
 alike_rows k c d alike =
     ap (λ (ls : List Labels). rows_of k (record d { table = record d.table { series = ls } })) alike.series ∙ ap (λ (hs : List History). rows_of k (record d { table = record d.table { series = c.table.series }; histories = hs })) alike.histories
 
-pub returns : goal.returns
-returns c = λ log hour ulid a b x y.
+pub returns-clause-made : goal.returns-clause-made
+returns-clause-made c = λ log hour ulid records damage content block r i b. record { records = records; damage = damage; content = content; reading = r; is_content = i; is_block = b }
+
+pub returns-clause-one : goal.returns-clause-one
+returns-clause-one c = λ log hour ulid a b x y.
     let same = c.one_reading.ensures log x.records y.records x.damage y.damage x.reading y.reading in
     let content : IsContentOf (contents x.records) y.content = subst (λ (ps : List Placed). IsContentOf (contents ps) y.content) (sym same.0) y.is_content in
     let rows = alike_rows hour x.content y.content (c.one_content.ensures (contents x.records) x.content y.content x.is_content content) in
