@@ -18,7 +18,7 @@ use Rattle.head_postings.specs.Given.{given}
 abbrev pub given_at : ℕ → Label → Text → Text → List ℕ
 given_at s l n v = if same_label (label n v) l then s ∷ [] else []
 
-given-more : (s : ℕ) (ls : Labels) (i : ℕ) (l : Label) (n v : Text) → slice_get ls i ≡ Some l → given s (take (i + 1) ls) n v ≡ given s (take i ls) n v ++ given_at s l n v
+pub given-more : (s : ℕ) (ls : Labels) (i : ℕ) (l : Label) (n v : Text) → slice_get ls i ≡ Some l → given s (take (i + 1) ls) n v ≡ given s (take i ls) n v ++ given_at s l n v
 given-more s ls i l n v h = ap (λ z. given s z n v) (take_more ls i l h) ∙ flat_map-push (λ l. given_at s l n v) (take i ls) l
 
 -- one label more was given the slot
@@ -78,7 +78,7 @@ rest_set : (l : Label) (ls : Labels) → IsLabelSet (l ∷ ls) → IsLabelSet ls
 rest_set l [] o = tt
 rest_set l (m ∷ more) o = o.2
 
-given-set : (s : ℕ) (ls : Labels) (n v : Text) → IsLabelSet ls → given s ls n v ≡ (if holds ls n v then s ∷ [] else [])
+pub given-set : (s : ℕ) (ls : Labels) (n v : Text) → IsLabelSet ls → given s ls n v ≡ (if holds ls n v then s ∷ [] else [])
 given-set s [] n v o = refl
 given-set s (l ∷ ls) n v o = at (same_label (label n v) l) refl (given-set s ls n v (rest_set l ls o)) where
   at : (b : Bool) → same_label (label n v) l ≡ b → given s ls n v ≡ (if holds ls n v then s ∷ [] else []) → (if b then s ∷ [] else []) ++ given s ls n v ≡ (if b || holds ls n v then s ∷ [] else [])

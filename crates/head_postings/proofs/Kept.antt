@@ -1,11 +1,13 @@
 -- A map whose keys are kept as vectors of bytes, seen as lists beside texts.
-use Rattle.std.proofs.Common.{◌≡◌, ℕ, true, List, [], ◌∷◌, ◌++◌, refl, Some, None, Vec, Global, ap, sym, subst, ◌∙◌, is_some}
+use Rattle.std.proofs.Common.{◌≡◌, ℕ, ◌-◌, true, List, [], ◌∷◌, ◌++◌, refl, Some, None, Vec, Global, ap, sym, subst, ◌∙◌, is_some}
 use Rattle.std.specs.Prelude.{Bool, ◌&&◌, if◌then◌else◌, slice_get, position, false}
+use Rattle.std.specs.Vec.{vec_capacity, vec_len}
 use Rattle.std.specs.Map.{lookup, keys_of, values_of}
 use Rattle.indexmap.specs.IndexMap.{set_value_at, insert_entry}
 use Rattle.wal_record.specs.Labels.{same_text}
 use Rattle.head_series.proofs.Places.{position-map, same_text_exact, same_text_refl}
-use Rattle.head_postings.specs.Postings.{Text, listed}
+use Rattle.head_postings.specs.Placed.{places, NamedPlaced, Placed}
+use Rattle.head_postings.specs.Postings.{Text, Lists, listed}
 use Rattle.head_postings.proofs.Listed.{seen, listed-last, listed-found, listed-none, listed-written, listed-inserted, none_found, IsPut}
 
 abbrev pub bytes : Vec ℕ Global → Text
@@ -37,9 +39,27 @@ gone g t new n q e = ap (listed (seen bytes g new)) (same_text_exact q t e) ∙ 
 pub popped_had : {A : Type 0} (t : Text) (w : List A) (old new : List (Text × List A)) → IsPut t w new old → listed old t ≡ w
 popped_had t w old new put = put t ∙ ap (λ b. if b then w else listed new t) (same_text_refl t)
 
--- a value that is seen as it is
-abbrev pub plain : {A : Type 0} → List A → List A
-plain xs = xs
+-- what is kept beside a name: the slots of its values, and the places beside them
+abbrev pub slots_in : Placed → List (Text × List ℕ)
+slots_in p = p.slots
+
+abbrev pub rooms_in : Placed → List (Text × List (Unit {0}))
+rooms_in p = p.rooms
+
+-- what is kept in all
+abbrev pub named_slots : NamedPlaced → List (Text × List (Text × List ℕ))
+named_slots p = p.slots
+
+abbrev pub named_rooms : NamedPlaced → List (Text × List (Text × List (Unit {0})))
+named_rooms p = p.rooms
+
+-- what is kept beside a value: its slots are its `bytes`, and the places that its list has room for
+abbrev pub spaces : Vec ℕ Global → List (Unit {0})
+spaces v = places (vec_capacity v - vec_len v)
+
+-- what the fields of postings show
+abbrev pub shown : NamedPlaced → Vec ℕ Global → Lists
+shown names all = record { all = all.items; names = names.slots; rooms = record { all = vec_capacity all - vec_len all; names = names.rooms } }
 
 -- a list of lists that is one of two
 pub listed-if : {A : Type 0} (b : Bool) (xs ys : List (Text × List A)) (q : Text) → listed (if b then xs else ys) q ≡ (if b then listed xs q else listed ys q)

@@ -4,3 +4,4 @@ pub mod Kept
 pub mod GivenLemmas
 pub mod Ascending
 pub mod PostingLemmas
+pub mod RoomLemmas

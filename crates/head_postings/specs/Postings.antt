@@ -18,10 +18,16 @@ listed (e ∷ es) t = if same_text t e.0 then e.1 else listed es t
 abbrev pub slots_of : List (Text × List (Text × List ℕ)) → Text → Text → List ℕ
 slots_of names name value = listed (listed names name) value
 
+-- How many slots more the lists take with no memory: that of all slots by a number, those of the labels by a list of places each. No look-up shows it.
+pub record Rooms : Type 0 where
+  pub all : ℕ
+  pub names : List (Text × List (Text × List (Unit {0})))
+
 -- What postings show: all slots, and what gives each label its slots (`selected`). The order of the texts says nothing, and a text with no slots is as good as none.
 pub record Lists : Type 0 where
   pub all : List ℕ
   pub names : List (Text × List (Text × List ℕ))
+  pub rooms : Rooms
 
 -- the slots of the label of this name and this value
 abbrev pub selected : Lists → Text → Text → List ℕ

@@ -1,7 +1,8 @@
 //! Laws of the definitions.
 
-ghost use Rattle.std.specs.Prelude.{◌≡◌, ℕ, List};
+ghost use Rattle.std.specs.Prelude.{◌≡◌, ◌∷◌, [], ℕ, List};
 ghost use Rattle.head_postings.specs.Postings.{AreAlike, IsPostingsOf, Labels, Lists};
+ghost use Rattle.head_postings.specs.Room.{HasRoom};
 ghost use Rattle.head_postings.specs.Slots.{IsUnion};
 
 /// Two lists have one union.
@@ -12,4 +13,14 @@ pub fn one_union()
 /// Slots with their label sets have one set of postings.
 pub fn one_postings()
     ensures { (sets : List (ℕ × Labels)) (p q : Lists) → IsPostingsOf sets p → IsPostingsOf sets q → AreAlike p q }
+{}
+
+/// Where there is room for some label sets, there is room for the first.
+pub fn room_for_first()
+    ensures { (p : Lists) (labels : Labels) (rest : List Labels) → HasRoom p (labels ∷ rest) → HasRoom p (labels ∷ []) }
+{}
+
+/// Where there is room for some label sets, there is room for those after the first.
+pub fn room_for_rest()
+    ensures { (p : Lists) (labels : Labels) (rest : List Labels) → HasRoom p (labels ∷ rest) → HasRoom p rest }
 {}

@@ -4,11 +4,13 @@
 //! here knows of references, samples or times.
 #![tactic(auto)]
 
+mod batch;
 mod laws;
 mod names;
 mod postings;
 mod union;
 mod values;
 
-pub use laws::{one_postings, one_union};
+pub use batch::Batch;
+pub use laws::{one_postings, one_union, room_for_first, room_for_rest};
 pub use postings::Postings;

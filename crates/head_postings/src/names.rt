@@ -1,9 +1,10 @@
 //! The slots of each label, by its name and then by its value.
 
-ghost use Rattle.std.specs.Prelude.{◌≡◌, ◌-◌, ◌≤◌, ◌++◌, ◌∷◌, [], ℕ, false, List, length, take, if◌then◌else◌, IfOk, OnOk, OnErr};
+ghost use Rattle.std.specs.Prelude.{◌≡◌, ◌+◌, ◌-◌, ◌<◌, ◌≤◌, ◌++◌, ◌∷◌, [], ℕ, true, false, List, length, take, if◌then◌else◌, IfOk, OnOk, OnErr};
 ghost use Rattle.wal_record.specs.Labels.{same_label, same_text};
 ghost use Rattle.head_postings.specs.Given.{given};
 ghost use Rattle.head_postings.specs.Postings.{holds, label, listed, slots_of};
+ghost use Rattle.head_postings.specs.Room.{room_of};
 ghost use Rattle.head_postings.specs.Slots.{IsAscending, IsUnion};
 
 use crate::values::Values;
@@ -20,17 +21,21 @@ pub(crate) struct Names {
 }
 
 impl Model for Names {
-    ghost use Rattle.std.specs.Prelude.{List, ℕ, map};
+    ghost use Rattle.std.specs.Prelude.{map};
+    ghost use Rattle.head_postings.specs.Placed.{NamedPlaced};
 
-    ghost Value = { List (List ℕ × List (List ℕ × List ℕ)) };
+    ghost Value = { NamedPlaced };
 
-    ghost view = { λ n. map (λ e. (e.0.items, e.1)) n.values.entries };
+    ghost view = { λ n. record {
+      slots = map (λ e. (e.0.items, e.1.slots)) n.values.entries;
+      rooms = map (λ e. (e.0.items, e.1.rooms)) n.values.entries;
+    } };
 }
 
 impl Names {
     // No names.
     pub(crate) fn new(alloc: Global) -> Names
-        ensures { result ≡ [] }
+        ensures { result.slots ≡ [] }
     {
         Names {
             values: IndexMap::new(alloc),
@@ -39,7 +44,7 @@ impl Names {
 
     // The slots of a label.
     pub(crate) fn find(&self, name: &[u8], value: &[u8]) -> &[Slot]
-        ensures { result.now ≡ slots_of self.now name.now value.now }
+        ensures { result.now ≡ slots_of self.now.slots name.now value.now }
     {
         match self.values.get(name) {
             Some(values) => values.find(value),
@@ -49,8 +54,8 @@ impl Names {
 
     // Adds a slot to those of a label. On an error each label has the slots that it had.
     fn push(&mut self, name: &[u8], value: &[u8], slot: Slot) -> Result<(), AllocError>
-        ensures ok { OnOk result ((n v : List ℕ) → slots_of self.new n v ≡ slots_of self.old n v ++ (if same_label (label n v) (label name.now value.now) then slot ∷ [] else [])) }
-        ensures err { OnErr result ((n v : List ℕ) → slots_of self.new n v ≡ slots_of self.old n v) }
+        ensures ok { OnOk result ((n v : List ℕ) → slots_of self.new.slots n v ≡ slots_of self.old.slots n v ++ (if same_label (label n v) (label name.now value.now) then slot ∷ [] else [])) }
+        ensures err { OnErr result ((n v : List ℕ) → slots_of self.new.slots n v ≡ slots_of self.old.slots n v) }
     {
         match self.values.get_index_of(name) {
             Some(index) => {
@@ -70,7 +75,7 @@ impl Names {
 
     // Takes back the last slot of a label.
     fn pop(&mut self, name: &[u8], value: &[u8])
-        ensures { (n v : List ℕ) → slots_of self.new n v ≡ (if same_label (label n v) (label name.now value.now) then take (length (slots_of self.old n v) - 1) (slots_of self.old n v) else slots_of self.old n v) }
+        ensures { (n v : List ℕ) → slots_of self.new.slots n v ≡ (if same_label (label n v) (label name.now value.now) then take (length (slots_of self.old.slots n v) - 1) (slots_of self.old.slots n v) else slots_of self.old.slots n v) }
     {
         match self.values.get_index_of(name) {
             Some(index) => self.values[index].pop(value),
@@ -81,7 +86,7 @@ impl Names {
     // Takes back a slot that was given to the first labels.
     fn take_back(&mut self, labels: &LabelSet, many: usize)
         requires { many ≤ length labels.now }
-        ensures { (s : ℕ) (n v before : List ℕ) → slots_of self.old n v ≡ before ++ given s (take many labels.now) n v → slots_of self.new n v ≡ before }
+        ensures { (s : ℕ) (n v before : List ℕ) → slots_of self.old.slots n v ≡ before ++ given s (take many labels.now) n v → slots_of self.new.slots n v ≡ before }
     {
         let mut left = many;
         while left > 0 {
@@ -93,8 +98,8 @@ impl Names {
 
     // Adds a slot to those of each label of a set. On an error each label has the slots that it had.
     pub(crate) fn add(&mut self, slot: Slot, labels: &LabelSet) -> Result<(), AllocError>
-        ensures ok { OnOk result ((n v : List ℕ) → slots_of self.new n v ≡ slots_of self.old n v ++ (if holds labels.now n v then slot ∷ [] else [])) }
-        ensures err { OnErr result ((n v : List ℕ) → slots_of self.new n v ≡ slots_of self.old n v) }
+        ensures ok { OnOk result ((n v : List ℕ) → slots_of self.new.slots n v ≡ slots_of self.old.slots n v ++ (if holds labels.now n v then slot ∷ [] else [])) }
+        ensures err { OnErr result ((n v : List ℕ) → slots_of self.new.slots n v ≡ slots_of self.old.slots n v) }
         ensures named { (v : List ℕ) → holds labels.now [] v ≡ false }
     {
         for i in 0..labels.len() {
@@ -110,11 +115,71 @@ impl Names {
         Ok(())
     }
 
+    // Makes room for this many slots more of a label. A label with no slots is as good as none.
+    fn make_room(&mut self, name: &[u8], value: &[u8], more: usize) -> Result<(), AllocError>
+        ensures same { (n v : List ℕ) → slots_of self.new.slots n v ≡ slots_of self.old.slots n v }
+        ensures room { OnOk result (more ≤ room_of self.new.rooms name.now value.now) }
+        ensures kept { (n v : List ℕ) → room_of self.old.rooms n v ≤ room_of self.new.rooms n v }
+    {
+        match self.values.get_index_of(name) {
+            Some(index) => {
+                self.values[index].make_room(value, more)?;
+                Ok(())
+            }
+            None => {
+                let alloc = *self.values.allocator();
+                let key = Vec::from_slice(alloc, name)?;
+                let mut values = Values::new(alloc);
+                values.make_room(value, more)?;
+                self.values.insert(key, values)?;
+                Ok(())
+            }
+        }
+    }
+
+    // Adds a slot to those of a label, for which there is room.
+    fn push_ready(&mut self, name: &[u8], value: &[u8], slot: Slot)
+        requires { 0 < room_of self.old.rooms name.now value.now }
+        ensures slots { (n v : List ℕ) → slots_of self.new.slots n v ≡ slots_of self.old.slots n v ++ (if same_label (label n v) (label name.now value.now) then slot ∷ [] else []) }
+        ensures left { (n v : List ℕ) → room_of self.old.rooms n v ≤ room_of self.new.rooms n v + (if same_label (label n v) (label name.now value.now) then 1 else 0) }
+    {
+        match self.values.get_index_of(name) {
+            Some(index) => self.values[index].push_ready(value, slot),
+            None => unreachable!(),
+        }
+    }
+
+    // Makes room at each label of a set, for as many slots as these have there.
+    pub(crate) fn reserve(&mut self, these: &Names, labels: &LabelSet) -> Result<(), AllocError>
+        ensures same { (n v : List ℕ) → slots_of self.new.slots n v ≡ slots_of self.old.slots n v }
+        ensures room { OnOk result ((n v : List ℕ) → holds labels.now n v ≡ true → length (slots_of these.now.slots n v) ≤ room_of self.new.rooms n v) }
+        ensures kept { (n v : List ℕ) → room_of self.old.rooms n v ≤ room_of self.new.rooms n v }
+    {
+        for i in 0..labels.len() {
+            let (name, value) = labels.pair(i);
+            self.make_room(name, value, these.find(name, value).len())?;
+        }
+        Ok(())
+    }
+
+    // Adds a slot to those of each label of a set, for which there is room.
+    pub(crate) fn add_ready(&mut self, slot: Slot, labels: &LabelSet)
+        requires { (n v : List ℕ) → (if holds labels.now n v then 1 else 0) ≤ room_of self.old.rooms n v }
+        ensures slots { (n v : List ℕ) → slots_of self.new.slots n v ≡ slots_of self.old.slots n v ++ (if holds labels.now n v then slot ∷ [] else []) }
+        ensures left { (n v : List ℕ) → room_of self.old.rooms n v ≤ room_of self.new.rooms n v + (if holds labels.now n v then 1 else 0) }
+        ensures named { (v : List ℕ) → holds labels.now [] v ≡ false }
+    {
+        for i in 0..labels.len() {
+            let (name, value) = labels.pair(i);
+            self.push_ready(name, value, slot);
+        }
+    }
+
     // The union with the slots of one name.
     fn absorb(&mut self, name: Vec<u8>, values: Values) -> Result<(), AllocError>
-        requires these { (n v : List ℕ) → IsAscending (slots_of self.old n v) }
-        requires those { (v : List ℕ) → IsAscending (listed values v) }
-        ensures { OnOk result ((n v : List ℕ) → IsUnion (slots_of self.old n v) (if same_text n name.items then listed values v else []) (slots_of self.new n v)) }
+        requires these { (n v : List ℕ) → IsAscending (slots_of self.old.slots n v) }
+        requires those { (v : List ℕ) → IsAscending (listed values.slots v) }
+        ensures { OnOk result ((n v : List ℕ) → IsUnion (slots_of self.old.slots n v) (if same_text n name.items then listed values.slots v else []) (slots_of self.new.slots n v)) }
     {
         match self.values.get_index_of(name.as_slice()) {
             Some(index) => {
@@ -130,9 +195,9 @@ impl Names {
 
     // The union, label by label.
     pub(crate) fn merge(&mut self, other: Names) -> Result<(), AllocError>
-        requires these { (n v : List ℕ) → IsAscending (slots_of self.old n v) }
-        requires those { (n v : List ℕ) → IsAscending (slots_of other n v) }
-        ensures { OnOk result ((n v : List ℕ) → IsUnion (slots_of self.old n v) (slots_of other n v) (slots_of self.new n v)) }
+        requires these { (n v : List ℕ) → IsAscending (slots_of self.old.slots n v) }
+        requires those { (n v : List ℕ) → IsAscending (slots_of other.slots n v) }
+        ensures { OnOk result ((n v : List ℕ) → IsUnion (slots_of self.old.slots n v) (slots_of other.slots n v) (slots_of self.new.slots n v)) }
     {
         let mut values = other.values;
         while let Some((name, more)) = values.pop() {
@@ -143,7 +208,7 @@ impl Names {
 
     // The same, in memory of its own.
     pub(crate) fn copy(&self) -> Result<Names, AllocError>
-        ensures { IfOk result (λ copy. copy ≡ self.now) }
+        ensures { IfOk result (λ copy. copy.slots ≡ self.now.slots) }
     {
         let alloc = *self.values.allocator();
         let mut values = IndexMap::new(alloc);

@@ -2,8 +2,10 @@
 
 ghost use Rattle.std.specs.Prelude.{◌≡◌, ◌++◌, ◌∷◌, [], ℕ, List, if◌then◌else◌, IfOk, OnOk, OnErr};
 ghost use Rattle.head_postings.specs.Postings.{holds, selected, AreAlike, AreMerged, IsMergeOf, IsPostingsOf, Labels};
+ghost use Rattle.head_postings.specs.Room.{HasRoom, IsReserved};
 ghost use Rattle.head_postings.specs.Slots.{AreBelow, IsAscending};
 
+use crate::batch::Batch;
 use crate::names::Names;
 use crate::union::united;
 use head_series::Slot;
@@ -30,13 +32,23 @@ impl Drop for Postings {
 }
 
 impl Model for Postings {
+    ghost use Rattle.std.specs.Prelude.{◌-◌};
+    ghost use Rattle.std.specs.Vec.{vec_capacity, vec_len};
     ghost use Rattle.head_postings.specs.Postings.{IsSound, Lists};
 
     ghost Value = { Lists };
 
-    ghost view = { λ p. record { all = p.all.items; names = p.names } };
+    ghost view = { λ p. record {
+      all = p.all.items;
+      names = p.names.slots;
+      rooms = record { all = vec_capacity p.all - vec_len p.all; names = p.names.rooms };
+    } };
 
-    ghost invariant = { λ p. IsSound (record { all = p.all.items; names = p.names }) };
+    ghost invariant = { λ p. IsSound (record {
+      all = p.all.items;
+      names = p.names.slots;
+      rooms = record { all = vec_capacity p.all - vec_len p.all; names = p.names.rooms };
+    }) };
 }
 
 impl Postings {
@@ -63,6 +75,40 @@ impl Postings {
         self.names.add(slot, labels)?;
         self.all.push_reserved(slot);
         Ok(())
+    }
+
+    /// A batch of no label sets yet.
+    pub fn batch(&self) -> Batch
+        ensures { IsReserved self.now [] result }
+    {
+        Batch::new(*self.all.allocator())
+    }
+
+    /// Takes one label set more into a batch, and makes room for a new slot with it beside the others. Whatever is answered, every
+    /// list is as it was. Where memory ran out, the batch is of no use any more.
+    pub fn make_room(&mut self, batch: &mut Batch, labels: &LabelSet) -> Result<(), AllocError>
+        ensures kept { AreAlike self.old self.new }
+        ensures room { (sets : List Labels) → IsReserved self.old sets batch.old → OnOk result (IsReserved self.new (sets ++ labels.now ∷ []) batch.new) }
+    {
+        batch.add(labels)?;
+        self.all.reserve(batch.len())?;
+        self.names.reserve(batch.names(), labels)?;
+        Ok(())
+    }
+
+    /// Adds a slot, greater than all that are there, with its label set. There has to be room for it. No memory is taken.
+    pub fn add_ready(&mut self, slot: Slot, labels: &LabelSet)
+        requires below { AreBelow slot self.old.all }
+        requires room { HasRoom self.old (labels.now ∷ []) }
+        ensures every { self.new.all ≡ self.old.all ++ slot ∷ [] }
+        ensures each { (name value : List ℕ) → selected self.new name value ≡ selected self.old name value ++ (if holds labels.now name value then slot ∷ [] else []) }
+        // The postings of the slots so far, and of this one.
+        ensures postings { (sets : List (ℕ × Labels)) → IsPostingsOf sets self.old → IsPostingsOf (sets ++ (slot, labels.now) ∷ []) self.new }
+        // Where there was room for others after it, it is there still.
+        ensures left { (rest : List Labels) → HasRoom self.old (labels.now ∷ rest) → HasRoom self.new rest }
+    {
+        self.names.add_ready(slot, labels);
+        self.all.push_reserved(slot);
     }
 
     /// The union of both in every list. Where memory ran out, both are gone.

@@ -1,6 +1,6 @@
 //! The slots of each value of a name.
 
-ghost use Rattle.std.specs.Prelude.{◌≡◌, ◌-◌, ◌++◌, ◌∷◌, [], ℕ, List, length, take, if◌then◌else◌, IfOk, OnOk, OnErr};
+ghost use Rattle.std.specs.Prelude.{◌≡◌, ◌+◌, ◌-◌, ◌<◌, ◌≤◌, ◌++◌, ◌∷◌, [], ℕ, List, length, take, if◌then◌else◌, IfOk, OnOk, OnErr};
 ghost use Rattle.wal_record.specs.Labels.{same_text};
 ghost use Rattle.head_postings.specs.Postings.{listed};
 ghost use Rattle.head_postings.specs.Slots.{IsAscending, IsUnion};
@@ -18,17 +18,22 @@ pub(crate) struct Values {
 }
 
 impl Model for Values {
-    ghost use Rattle.std.specs.Prelude.{List, ℕ, map};
+    ghost use Rattle.std.specs.Prelude.{◌-◌, map};
+    ghost use Rattle.std.specs.Vec.{vec_capacity, vec_len};
+    ghost use Rattle.head_postings.specs.Placed.{places, Placed};
 
-    ghost Value = { List (List ℕ × List ℕ) };
+    ghost Value = { Placed };
 
-    ghost view = { λ v. map (λ e. (e.0.items, e.1.items)) v.lists.entries };
+    ghost view = { λ v. record {
+      slots = map (λ e. (e.0.items, e.1.items)) v.lists.entries;
+      rooms = map (λ e. (e.0.items, places (vec_capacity e.1 - vec_len e.1))) v.lists.entries;
+    } };
 }
 
 impl Values {
     // No values.
     pub(crate) fn new(alloc: Global) -> Values
-        ensures { result ≡ [] }
+        ensures { result.slots ≡ [] }
     {
         Values {
             lists: IndexMap::new(alloc),
@@ -37,7 +42,7 @@ impl Values {
 
     // The slots of a value.
     pub(crate) fn find(&self, value: &[u8]) -> &[Slot]
-        ensures { result.now ≡ listed self.now value.now }
+        ensures { result.now ≡ listed self.now.slots value.now }
     {
         match self.lists.get(value) {
             Some(slots) => slots.as_slice(),
@@ -47,8 +52,8 @@ impl Values {
 
     // Adds a slot to those of a value. On an error each value has the slots that it had.
     pub(crate) fn push(&mut self, value: &[u8], slot: Slot) -> Result<(), AllocError>
-        ensures ok { OnOk result ((v : List ℕ) → listed self.new v ≡ listed self.old v ++ (if same_text v value.now then slot ∷ [] else [])) }
-        ensures err { OnErr result ((v : List ℕ) → listed self.new v ≡ listed self.old v) }
+        ensures ok { OnOk result ((v : List ℕ) → listed self.new.slots v ≡ listed self.old.slots v ++ (if same_text v value.now then slot ∷ [] else [])) }
+        ensures err { OnErr result ((v : List ℕ) → listed self.new.slots v ≡ listed self.old.slots v) }
     {
         match self.lists.get_index_of(value) {
             Some(index) => {
@@ -68,7 +73,7 @@ impl Values {
 
     // Takes back the last slot of a value.
     pub(crate) fn pop(&mut self, value: &[u8])
-        ensures { (v : List ℕ) → listed self.new v ≡ (if same_text v value.now then take (length (listed self.old v) - 1) (listed self.old v) else listed self.old v) }
+        ensures { (v : List ℕ) → listed self.new.slots v ≡ (if same_text v value.now then take (length (listed self.old.slots v) - 1) (listed self.old.slots v) else listed self.old.slots v) }
     {
         match self.lists.get_index_of(value) {
             Some(index) => {
@@ -78,11 +83,44 @@ impl Values {
         }
     }
 
+    // Makes room for this many slots more of a value. A value with no slots is as good as none.
+    pub(crate) fn make_room(&mut self, value: &[u8], more: usize) -> Result<(), AllocError>
+        ensures same { (v : List ℕ) → listed self.new.slots v ≡ listed self.old.slots v }
+        ensures room { OnOk result (more ≤ length (listed self.new.rooms value.now)) }
+        ensures kept { (v : List ℕ) → length (listed self.old.rooms v) ≤ length (listed self.new.rooms v) }
+    {
+        match self.lists.get_index_of(value) {
+            Some(index) => {
+                self.lists[index].reserve(more)?;
+                Ok(())
+            }
+            None => {
+                let alloc = *self.lists.allocator();
+                let key = Vec::from_slice(alloc, value)?;
+                let slots = Vec::with_capacity(alloc, more)?;
+                self.lists.insert(key, slots)?;
+                Ok(())
+            }
+        }
+    }
+
+    // Adds a slot to those of a value, for which there is room.
+    pub(crate) fn push_ready(&mut self, value: &[u8], slot: Slot)
+        requires { 0 < length (listed self.old.rooms value.now) }
+        ensures slots { (v : List ℕ) → listed self.new.slots v ≡ listed self.old.slots v ++ (if same_text v value.now then slot ∷ [] else []) }
+        ensures left { (v : List ℕ) → length (listed self.old.rooms v) ≤ length (listed self.new.rooms v) + (if same_text v value.now then 1 else 0) }
+    {
+        match self.lists.get_index_of(value) {
+            Some(index) => self.lists[index].push_reserved(slot),
+            None => unreachable!(),
+        }
+    }
+
     // The union with the slots of one value.
     fn absorb(&mut self, value: Vec<u8>, slots: Vec<Slot>) -> Result<(), AllocError>
-        requires these { (v : List ℕ) → IsAscending (listed self.old v) }
+        requires these { (v : List ℕ) → IsAscending (listed self.old.slots v) }
         requires those { IsAscending slots.items }
-        ensures { OnOk result ((v : List ℕ) → IsUnion (listed self.old v) (if same_text v value.items then slots.items else []) (listed self.new v)) }
+        ensures { OnOk result ((v : List ℕ) → IsUnion (listed self.old.slots v) (if same_text v value.items then slots.items else []) (listed self.new.slots v)) }
     {
         match self.lists.get_index_of(value.as_slice()) {
             Some(index) => {
@@ -100,9 +138,9 @@ impl Values {
 
     // The union, value by value.
     pub(crate) fn merge(&mut self, other: Values) -> Result<(), AllocError>
-        requires these { (v : List ℕ) → IsAscending (listed self.old v) }
-        requires those { (v : List ℕ) → IsAscending (listed other v) }
-        ensures { OnOk result ((v : List ℕ) → IsUnion (listed self.old v) (listed other v) (listed self.new v)) }
+        requires these { (v : List ℕ) → IsAscending (listed self.old.slots v) }
+        requires those { (v : List ℕ) → IsAscending (listed other.slots v) }
+        ensures { OnOk result ((v : List ℕ) → IsUnion (listed self.old.slots v) (listed other.slots v) (listed self.new.slots v)) }
     {
         let mut lists = other.lists;
         while let Some((value, slots)) = lists.pop() {
@@ -113,7 +151,7 @@ impl Values {
 
     // The same, in memory of its own.
     pub(crate) fn copy(&self) -> Result<Values, AllocError>
-        ensures { IfOk result (λ copy. copy ≡ self.now) }
+        ensures { IfOk result (λ copy. copy.slots ≡ self.now.slots) }
     {
         let alloc = *self.lists.allocator();
         let mut lists = IndexMap::new(alloc);

@@ -14,7 +14,7 @@ use Rattle.head_series.specs.Rows.{IsLast, labels_hash, labels_in, or_zero}
 use Rattle.head_series.specs.Sound.{IsSound}
 use Rattle.head_series.specs.Texts.{Text, TextTable}
 
-drop_at : {A : Type 0} (xs : List A) (n : ℕ) (x : A) → slice_get xs n ≡ Some x → drop n xs ≡ x ∷ drop (suc n) xs
+pub drop_at : {A : Type 0} (xs : List A) (n : ℕ) (x : A) → slice_get xs n ≡ Some x → drop n xs ≡ x ∷ drop (suc n) xs
 drop_at [] n x h = cc
 drop_at (y ∷ ys) zero x h = let k : y ≡ x = cc in ap (λ z. z ∷ ys) k
 drop_at (y ∷ ys) (suc n) x h = drop_at ys n x h
@@ -36,12 +36,13 @@ put_front es n left key v e h k =
 
 -- a table of the same fields
 pub IsSound-alike : (t u : TextTable) (most : ℕ) (nss mss : List (List (ℕ × ℕ))) (befores cefores : List ℕ) (last_by_hash masts : List (ℕ × ℕ)) (lower_bounds ints : List ℕ) (o p : ReferenceSlotsValue) → IsSound t most nss befores last_by_hash lower_bounds o
-    → u ≡ t → mss ≡ nss → cefores ≡ befores → ((h : ℕ) → lookup (nat_eq h) masts ≡ lookup (nat_eq h) last_by_hash) → ints ≡ lower_bounds → ((r : ℕ) → slot_of p r ≡ slot_of o r) → IsSound u most mss cefores masts ints p
-IsSound-alike t u most nss mss befores cefores last_by_hash masts lower_bounds ints o p s tu ns bs ls hs os =
-    subst (λ z. IsSound z most mss cefores masts ints p) (sym tu)
-    (subst (λ z. IsSound t most z cefores masts ints p) (sym ns)
-    (subst (λ z. IsSound t most nss z masts ints p) (sym bs)
-    (subst (λ z. IsSound t most nss befores masts z p) (sym hs)
+    → u.texts ≡ t.texts → u.most ≡ t.most → mss ≡ nss → cefores ≡ befores → ((h : ℕ) → lookup (nat_eq h) masts ≡ lookup (nat_eq h) last_by_hash) → ints ≡ lower_bounds → ((r : ℕ) → slot_of p r ≡ slot_of o r) → IsSound u most mss cefores masts ints p
+IsSound-alike t u most nss mss befores cefores last_by_hash masts lower_bounds ints o p s tu tm ns bs ls hs os =
+    subst (λ z. IsSound (table z u.most) most mss cefores masts ints p) (sym tu)
+    (subst (λ z. IsSound (table t.texts z) most mss cefores masts ints p) (sym tm)
+    (subst (λ z. IsSound (table t.texts t.most) most z cefores masts ints p) (sym ns)
+    (subst (λ z. IsSound (table t.texts t.most) most nss z masts ints p) (sym bs)
+    (subst (λ z. IsSound (table t.texts t.most) most nss befores masts z p) (sym hs)
     (record {
       few = s.few;
       limit = s.limit;
@@ -58,7 +59,10 @@ IsSound-alike t u most nss mss befores cefores last_by_hash masts lower_bounds i
         ends = λ h. subst (IsLast (hashes t nss) (length (hashes t nss)) h) (sym (ap or_zero (ls h))) (s.chained.ends h);
         before = s.chained.before;
       };
-    })))) where
+    }))))) where
+      table : List Text → ℕ → TextTable
+      table ts most = record { texts = ts; most = most; room = u.room }
+
       hashes : TextTable → List (List (ℕ × ℕ)) → List ℕ
       hashes t nss = map labels_hash (map (labels_in t.texts) nss)
 

@@ -9,3 +9,6 @@ pub mod BindLemmas
 pub mod CopyLemmas
 pub mod Greatest
 pub mod Created
+pub mod PutLemmas
+pub mod RoomLemmas
+pub mod PlanLemmas

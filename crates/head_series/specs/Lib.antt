@@ -1,6 +1,7 @@
 pub mod Texts
-pub mod ReferenceSlots
 pub mod Rows
 pub mod Table
+pub mod ReferenceSlots
 pub mod Bindings
+pub mod Room
 pub mod Sound

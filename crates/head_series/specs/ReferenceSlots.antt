@@ -1,10 +1,7 @@
 -- How the slots of references are kept: words of proofs, which no public contract cites.
 use Rattle.std.specs.Prelude.{◌≡◌, ℕ, zero, suc, ◌≤◌, List, [], ◌∷◌, ◌++◌, Option, None, Some, nat_eq, nat_le, nat_lt, length, filter, slice_index, take, IsTrue, if◌then◌else◌}
 use Rattle.std.specs.Map.{lookup}
-
--- references below this one stand in a list
-abbrev pub low_end : ℕ
-low_end = 4194304
+pub use Rattle.head_series.specs.Table.{low_end}
 
 -- Of the references below that end a slot and one, or 0; the slots of the others; and how many of these can still be put in.
 pub record ReferenceSlotsValue : Type 0 where

@@ -7,13 +7,27 @@ use Rattle.wal_record.specs.Labels.{same_labels}
 use Rattle.hw_bytes.specs.Lists.{greater_by}
 use Rattle.head_series.specs.Texts.{Text, with_texts, texts_of}
 
--- What a table shows: the series by slot; the references that have a slot, each beside it, in no particular order (`slot_at`); the greatest reference that was ever bound; the distinct texts of the series; and how many series, and how many texts, there may be.
+-- references below this one have a place in a list, and the others are keys of a map
+abbrev pub low_end : ℕ
+low_end = 4194304
+
+-- How much more goes in without memory: rows of series, their lower bounds, their places by hash, and texts; the references below `low_end` that are below `places`, each of which has its place; and this many from `low_end` on.
+pub record Room : Type 0 where
+  pub rows : ℕ
+  pub lower_bounds : ℕ
+  pub last_by_hash : ℕ
+  pub texts : ℕ
+  pub places : ℕ
+  pub high : ℕ
+
+-- What a table shows: the series by slot; the references that have a slot, each beside it, in no particular order (`slot_at`); the greatest reference that was ever bound; the distinct texts of the series; and how many series, and how many texts, there may be. And, of which no call tells, how much more goes in without memory.
 pub record Table : Type 0 where
   pub series : List Labels
   pub slots : List (ℕ × ℕ)
   pub greatest : Option ℕ
   pub texts : List Text
   pub most : ℕ
+  pub room : Room
 
 -- the slot of a reference
 abbrev pub slot_at : Table → ℕ → Option ℕ

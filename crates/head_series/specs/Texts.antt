@@ -29,7 +29,8 @@ abbrev pub place : {A : Type 0} → (A → Bool) → List A → Option ℕ
 place p [] = None
 place p (x ∷ xs) = if p x then Some 0 else option_map (λ n. n + 1) (place p xs)
 
--- texts, and how many there may be
+-- texts, how many there may be, and how many more go in without memory
 pub record TextTable : Type 0 where
   pub texts : List Text
   pub most : ℕ
+  pub room : ℕ

@@ -1,10 +1,11 @@
 //! Numbers for texts.
 
-ghost use Rattle.std.specs.Prelude.{take, [], ◌≡◌, ◌<◌, ◌≤◌, ◌⊎◌, Some, None, Err, false, true, length, slice_get, IfOk, OnOk, OnErr, IsOk};
+ghost use Rattle.std.specs.Prelude.{take, [], ◌++◌, ◌+◌, ◌^◌, ◌≡◌, ◌<◌, ◌≤◌, ◌⊎◌, Some, None, Err, false, true, length, slice_get, IfOk, OnOk, OnErr, IsOk};
 ghost use Rattle.wal_record.specs.Labels.{same_text};
 ghost use Rattle.head_series.specs.Rows.{labels_in, AreWithin};
 ghost use Rattle.head_series.specs.Texts.{has_text, place, with_text, with_texts, texts_of};
 
+use crate::ready::Ready;
 use indexmap::IndexSet;
 use std::alloc::{AllocError, AllocFailed, Global};
 use std::error::Error;
@@ -77,10 +78,11 @@ impl Model for Interner {
     ghost use Rattle.wal_record.specs.Labels.{same_text};
     ghost use Rattle.head_series.specs.Rows.{AreDistinct};
     ghost use Rattle.head_series.specs.Texts.{TextTable};
+    ghost use Rattle.indexmap.specs.IndexSet.{spare};
 
     ghost Value = { TextTable };
 
-    ghost view = { λ t. record { texts = map (λ v. v.items) t.texts.keys; most = t.most } };
+    ghost view = { λ t. record { texts = map (λ v. v.items) t.texts.keys; most = t.most; room = spare t.texts } };
 
     ghost invariant = { λ t. (length t.texts.keys ≤ t.most) × AreDistinct same_text (map (λ v. v.items) t.texts.keys) };
 }
@@ -101,6 +103,7 @@ impl Interner {
     pub fn len(&self) -> usize
         ensures count { result ≡ length self.now.texts }
         ensures few { result ≤ self.now.most }
+        ensures fits { result < 2 ^ 32 }
     {
         // for the proof, which knows the invariant where a field is named
         let _most = self.most;
@@ -144,6 +147,85 @@ impl Interner {
         let text = Vec::from_slice(*self.texts.allocator(), text)?;
         self.texts.insert_full(text)?;
         Ok(number as u32)
+    }
+
+    // The number of a text, which is kept if it is new. There is room for it.
+    fn put(&mut self, text: Vec<u8>) -> u32
+        requires room { 0 < self.old.room }
+        requires few { has_text self.old.texts text.items ≡ false → length self.old.texts < self.old.most }
+        ensures texts { self.new.texts ≡ with_text self.old.texts text.items }
+        ensures number { place (same_text text.items) self.new.texts ≡ Some result }
+        ensures within { result < length self.new.texts }
+        ensures room { self.old.room ≤ self.new.room + 1 }
+        ensures most { self.new.most ≡ self.old.most }
+    {
+        match self.find(&text) {
+            Some(known) => return known,
+            None => {}
+        }
+        let number = self.texts.len();
+        match self.texts.insert_full(text) {
+            Ok(_) => {}
+            Err(_) => unreachable!(),
+        }
+        number as u32
+    }
+
+    // The numbers of the texts of a label set, of which copies were made beforehand. There is room for them.
+    pub(crate) fn put_all(&mut self, ready: Ready) -> Vec<(u32, u32)>
+        requires room { length (texts_of ready) ≤ self.old.room }
+        requires few { length (with_texts self.old.texts (texts_of ready)) ≤ self.old.most }
+        ensures texts { self.new.texts ≡ with_texts self.old.texts (texts_of ready) }
+        ensures numbers { labels_in self.new.texts result.items ≡ ready }
+        ensures within { AreWithin (length self.new.texts) result.items }
+        ensures room { self.old.room ≤ self.new.room + length (texts_of ready) }
+        ensures most { self.new.most ≡ self.old.most }
+    {
+        let (mut texts, mut numbers) = ready.into_parts();
+        while let Some((name, value)) = texts.pop() {
+            let first = self.put(name);
+            let second = self.put(value);
+            numbers.push_reserved((first, second));
+        }
+        // for the proof, which knows the invariant where a field is named
+        let _texts = &self.texts;
+        numbers
+    }
+
+    // Makes room for this many texts more.
+    pub(crate) fn reserve(&mut self, many: usize) -> Result<(), AllocError>
+        ensures texts { self.new.texts ≡ self.old.texts }
+        ensures most { self.new.most ≡ self.old.most }
+        ensures room { OnOk result (many ≤ self.new.room) }
+    {
+        // for the proof, which knows the invariant where a field is named
+        let _most = self.most;
+        self.texts.reserve(many)
+    }
+
+    // Keeps in `more` the texts of a label set that are not here.
+    pub(crate) fn note(&self, more: &mut Interner, labels: &LabelSet) -> Result<(), InternFault>
+        ensures { OnOk result (self.now.texts ++ more.new.texts ≡ with_texts (self.now.texts ++ more.old.texts) (texts_of labels.now)) }
+    {
+        for i in 0..labels.len() {
+            let (name, value) = labels.pair(i);
+            self.note_text(more, name)?;
+            self.note_text(more, value)?;
+        }
+        Ok(())
+    }
+
+    // Keeps a text in `more` if it is not here.
+    fn note_text(&self, more: &mut Interner, text: &[u8]) -> Result<(), InternFault>
+        ensures { OnOk result (self.now.texts ++ more.new.texts ≡ with_text (self.now.texts ++ more.old.texts) text.now) }
+    {
+        match self.find(text) {
+            Some(_) => Ok(()),
+            None => {
+                more.number(text)?;
+                Ok(())
+            }
+        }
     }
 
     /// The text with the number.
@@ -215,7 +297,8 @@ impl Interner {
 
     // The same texts, in memory of their own.
     pub(crate) fn copy(&self) -> Result<Interner, AllocError>
-        ensures { IfOk result (λ copy. copy ≡ self.now) }
+        ensures texts { IfOk result (λ copy. copy.texts ≡ self.now.texts) }
+        ensures most { IfOk result (λ copy. copy.most ≡ self.now.most) }
     {
         let mut copy = Interner::new(*self.texts.allocator(), self.most);
         for i in 0..self.texts.len() {

@@ -1,10 +1,11 @@
 //! Laws of the definitions.
 
-ghost use Rattle.std.specs.Prelude.{◌≡◌, ◌<◌, ◌≤◌, ℕ, List, Option, Some, length, map};
+ghost use Rattle.std.specs.Prelude.{◌≡◌, ◌<◌, ◌≤◌, ◌∷◌, [], ℕ, List, Option, Some, length, map};
 ghost use Rattle.std.specs.Option.{option_and_then};
 ghost use Rattle.wal_record.specs.Labels.{same_labels};
 ghost use Rattle.hw_bytes.specs.Lists.{IsGreatest};
 ghost use Rattle.head_series.specs.Bindings.{Binding, greatest_of, owner, IsTableOf};
+ghost use Rattle.head_series.specs.Room.{HasRoom};
 ghost use Rattle.head_series.specs.Table.{Table, labels_at, slot_at, IsLeast};
 ghost use Rattle.head_series.specs.Texts.{place};
 
@@ -23,4 +24,9 @@ pub fn slot_is_place()
 /// In a table of bindings the least reference with a slot is the least reference whose owner is the label set of the slot.
 pub fn least_reference()
     ensures { (bs : List Binding) (t : Table) (s : ℕ) (least : Option ℕ) → IsTableOf bs t → s < length t.series → IsLeast (λ r. slot_at t r ≡ Some s) least → IsLeast (λ r. owner bs r ≡ Some (labels_at t s)) least }
+{}
+
+/// Room for several bindings is room for the first of them.
+pub fn room_for_first()
+    ensures { (t : Table) (b : Binding) (bs : List Binding) → HasRoom t (b ∷ bs) → HasRoom t (b ∷ []) }
 {}

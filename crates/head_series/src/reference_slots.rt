@@ -2,6 +2,7 @@
 
 ghost use Rattle.std.specs.Prelude.{◌≡◌, ◌<◌, ◌≤◌, ◌+◌, ◌^◌, ℕ, Some, None, [], length, IfOk, IfSome, IfNone, OnOk};
 ghost use Rattle.head_series.specs.ReferenceSlots.{low_end, slot_of, HasRoom, IsHigh, IsUpTo};
+ghost use Rattle.head_series.specs.Room.{high_one};
 ghost use Rattle.head_series.specs.Table.{IsWith, IsLeast};
 
 use crate::maps::copied;
@@ -10,7 +11,7 @@ use std::alloc::{AllocError, Global};
 use std::marker::Model;
 
 // References below this one have a place in a list.
-const LOW_END: u64 = 4_194_304;
+pub(crate) const LOW_END: u64 = 4_194_304;
 
 /// The slot of each reference: small references in a list, the others in a map.
 #[derive(Debug)]
@@ -84,11 +85,29 @@ impl ReferenceSlots {
         }
     }
 
+    // Makes a place for the slot of a reference below the bound, and room for those of this many from the bound on.
+    pub(crate) fn make_room(&mut self, reference: u64, many: usize) -> Result<(), AllocError>
+        ensures same { (r : ℕ) → slot_of self.new r ≡ slot_of self.old r }
+        ensures place { OnOk result (reference < low_end → reference < length self.new.low) }
+        ensures places { length self.old.low ≤ length self.new.low }
+        ensures room { OnOk result (many ≤ self.new.room) }
+    {
+        if reference < LOW_END {
+            let end = reference as usize + 1;
+            if self.low.len() < end {
+                self.low.resize(end, 0)?;
+            }
+        }
+        self.high.reserve(many)
+    }
+
     // Gives a reference the slot.
     pub(crate) fn set(&mut self, reference: u64, slot: u32)
         requires room { HasRoom self.old reference }
         requires small { slot + 1 < 2 ^ 32 }
-        ensures { IsWith (slot_of self.old) reference slot (slot_of self.new) }
+        ensures with { IsWith (slot_of self.old) reference slot (slot_of self.new) }
+        ensures places { length self.new.low ≡ length self.old.low }
+        ensures left { self.old.room ≤ self.new.room + high_one reference }
     {
         if reference < LOW_END {
             self.low[reference as usize] = slot + 1;

@@ -1,6 +1,6 @@
 //! How a series is kept: numbers of texts, in chains of equal hashes.
 
-ghost use Rattle.std.specs.Prelude.{◌≡◌, ◌<◌, ◌==◌, ℕ, false, map, nat_eq, length, if◌then◌else◌, IfOk, IsTrue};
+ghost use Rattle.std.specs.Prelude.{◌≡◌, ◌+◌, ◌≤◌, ◌<◌, ◌==◌, ℕ, false, map, nat_eq, length, if◌then◌else◌, IfOk, IsTrue};
 ghost use Rattle.std.specs.Map.{lookup};
 ghost use Rattle.indexmap.specs.IndexMap.{spare};
 ghost use Rattle.head_series.specs.Rows.{labels_in, AreWithin, or_zero};
@@ -52,7 +52,8 @@ pub(crate) fn last_with(last_by_hash: &IndexMap<u64, u32>, hash: u64) -> u32
 // Notes one more than the slot of the last series with the hash.
 pub(crate) fn note_last(last_by_hash: &mut IndexMap<u64, u32>, hash: u64, last: u32)
     requires { 0 < spare last_by_hash.old }
-    ensures { (h : ℕ) → or_zero (lookup (nat_eq h) last_by_hash.new.entries) ≡ (if hash == h then last else or_zero (lookup (nat_eq h) last_by_hash.old.entries)) }
+    ensures room { spare last_by_hash.old ≤ spare last_by_hash.new + 1 }
+    ensures lasts { (h : ℕ) → or_zero (lookup (nat_eq h) last_by_hash.new.entries) ≡ (if hash == h then last else or_zero (lookup (nat_eq h) last_by_hash.old.entries)) }
 {
     last_by_hash.insert(hash, last).unwrap();
 }

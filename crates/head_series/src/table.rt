@@ -1,16 +1,19 @@
 //! Series and the references that name them.
 
-ghost use Rattle.std.specs.Prelude.{◌≡◌, ◌<◌, ◌≤◌, ◌^◌, ◌++◌, ◌∷◌, [], ℕ, All, Some, None, Err, false, List, not, length, slice_get, IfOk, IfSome, OnOk, OnErr, IsOk};
+ghost use Rattle.std.specs.Prelude.{◌≡◌, ◌+◌, ◌<◌, ◌≤◌, ◌^◌, ◌++◌, ◌∷◌, [], ℕ, All, Some, None, Err, false, List, not, length, slice_get, IfOk, IfSome, OnOk, OnErr, IsOk};
 ghost use Rattle.wal_record.specs.Labels.{IsLabelSet, compare_labels, same_labels};
 ghost use Rattle.head_series.specs.Bindings.{Binding, IsTableOf};
+ghost use Rattle.head_series.specs.Room.{high_one, Fits, HasRoom, IsPlanOf, IsReserved, Uses};
 ghost use Rattle.head_series.specs.Rows.{AreDistinct};
-ghost use Rattle.head_series.specs.Table.{after, has_series, labels_at, slot_at, texts_with, with_greatest, with_series, AreAlike, IsFull, IsLeast, IsWith};
+ghost use Rattle.head_series.specs.Table.{after, has_series, labels_at, low_end, slot_at, texts_with, with_greatest, with_series, AreAlike, IsFull, IsLeast, IsWith, Labels};
 ghost use Rattle.head_series.specs.Texts.{place, with_texts, texts_of};
 
 use crate::comparing::compare_numbers;
 use crate::hashing::hash_of;
 use crate::interner::{InternFault, Interner};
 use crate::maps::copied;
+use crate::plan::Plan;
+use crate::ready::Ready;
 use crate::reference_slots::ReferenceSlots;
 use crate::rows::{Row, copied_rows, is_named, last_with, note_last};
 use crate::slot::Slot;
@@ -63,7 +66,8 @@ pub struct Bound {
 }
 
 /// Series, numbered by their slots in the order of first sight, and the references that name them. Each label text is kept
-/// once. Contracts see a `Table`: the series, the slot of each reference, the greatest reference, the texts and the limit.
+/// once. Contracts see a `Table`: the series, the slot of each reference, the greatest reference, the texts and the limit;
+/// and, of which no call tells, how much more goes in without memory.
 #[derive(Debug)]
 pub struct SeriesTable {
     texts: Interner,
@@ -91,7 +95,9 @@ impl Drop for SeriesTable {
 }
 
 impl Model for SeriesTable {
-    ghost use Rattle.std.specs.Prelude.{map};
+    ghost use Rattle.std.specs.Prelude.{◌-◌, length, map};
+    ghost use Rattle.std.specs.Vec.{vec_capacity, vec_len};
+    ghost use Rattle.indexmap.specs.IndexMap.{spare};
     ghost use Rattle.head_series.specs.ReferenceSlots.{pairs_of};
     ghost use Rattle.head_series.specs.Rows.{labels_in};
     ghost use Rattle.head_series.specs.Sound.{IsSound};
@@ -99,7 +105,7 @@ impl Model for SeriesTable {
 
     ghost Value = { Table };
 
-    ghost view = { λ t. record { series = map (labels_in t.texts.texts) (map (λ r. r.numbers.items) t.rows.items); slots = pairs_of t.slots; greatest = t.greatest; texts = t.texts.texts; most = t.most } };
+    ghost view = { λ t. record { series = map (labels_in t.texts.texts) (map (λ r. r.numbers.items) t.rows.items); slots = pairs_of t.slots; greatest = t.greatest; texts = t.texts.texts; most = t.most; room = record { rows = vec_capacity t.rows - vec_len t.rows; lower_bounds = vec_capacity t.lower_bounds - vec_len t.lower_bounds; last_by_hash = spare t.last_by_hash; texts = t.texts.room; places = length t.slots.low; high = t.slots.room } } };
 
     ghost invariant = { λ t. IsSound t.texts t.most (map (λ r. r.numbers.items) t.rows.items) (map (λ r. r.previous) t.rows.items) t.last_by_hash.entries t.lower_bounds.items t.slots };
 }
@@ -299,11 +305,26 @@ impl SeriesTable {
         ensures kept { OnErr result (AreAlike self.old self.new) }
     {
         self.slots.reserve(reference)?;
+        self.point_ready(reference, slot);
+        Ok(())
+    }
+
+    // Gives a series one more reference, for whose slot there is room.
+    fn point_ready(&mut self, reference: u64, slot: Slot)
+        requires slot { slot < length self.old.series }
+        requires place { reference < low_end → reference < self.old.room.places }
+        requires high { high_one reference ≤ self.old.room.high }
+        ensures series { self.new.series ≡ self.old.series }
+        ensures slots { IsWith (slot_at self.old) reference slot (slot_at self.new) }
+        ensures greatest { self.new.greatest ≡ with_greatest self.old.greatest reference }
+        ensures texts { self.new.texts ≡ self.old.texts }
+        ensures most { self.new.most ≡ self.old.most }
+        ensures uses { (labels : Labels) → Uses self.old self.new (record { reference = reference; labels = labels }) }
+    {
         self.slots.set(reference, slot.number());
         let lower_bound = lesser(self.lower_bounds[slot.index()], reference);
         self.lower_bounds[slot.index()] = lower_bound;
         self.greatest = with_reference(self.greatest, reference);
-        Ok(())
     }
 
     // Adds a series with a reference.
@@ -344,6 +365,33 @@ impl SeriesTable {
         Ok(Slot::new(slot))
     }
 
+    // Adds a series with a reference, out of what was made beforehand.
+    fn create_ready(&mut self, reference: u64, labels: &LabelSet, ready: Ready) -> Slot
+        requires new { has_series self.old.series labels.now ≡ false }
+        requires ready { ready ≡ labels.now }
+        requires room { HasRoom self.old ((record { reference = reference; labels = labels.now }) ∷ []) }
+        ensures series { self.new.series ≡ self.old.series ++ labels.now ∷ [] }
+        ensures slot { result ≡ length self.old.series }
+        ensures slots { IsWith (slot_at self.old) reference result (slot_at self.new) }
+        ensures greatest { self.new.greatest ≡ with_greatest self.old.greatest reference }
+        ensures texts { self.new.texts ≡ with_texts self.old.texts (texts_of labels.now) }
+        ensures most { self.new.most ≡ self.old.most }
+        ensures uses { Uses self.old self.new (record { reference = reference; labels = labels.now }) }
+    {
+        // for the proof, which knows the invariant where a field is named
+        let _most = self.most;
+        let number = self.rows.len() as u32;
+        let numbers = self.texts.put_all(ready);
+        let hash = hash_of(labels);
+        let previous = last_with(&self.last_by_hash, hash);
+        note_last(&mut self.last_by_hash, hash, number + 1);
+        self.rows.push_reserved(Row { numbers, previous });
+        self.lower_bounds.push_reserved(reference);
+        self.slots.set(reference, number);
+        self.greatest = with_reference(self.greatest, reference);
+        Slot::new(number)
+    }
+
     /// Binds a reference to a label set from here on, whatever it was bound to before. `Full` just where the label set is new
     /// and one series more, or its texts, would pass the limit; `Memory` where memory ran out. The table shows the same as
     /// before on both.
@@ -381,6 +429,124 @@ impl SeriesTable {
                     slot,
                     created: true,
                 })
+            }
+        }
+    }
+
+    /// A plan of no bindings yet, for bindings that are to be made in this table.
+    pub fn plan(&self) -> Plan
+        ensures { IsReserved self.now [] result }
+    {
+        // for the proof, which learns by them that neither passes the limit
+        let _series = self.len();
+        let _texts = self.texts.len();
+        Plan::new(*self.rows.allocator())
+    }
+
+    /// Makes room for one binding more, after those of a plan, and notes it there; `bind_ready` takes what is given back. `Full`
+    /// just where the bindings of the plan and this one pass the limit of series or of texts, `Memory` where memory ran out;
+    /// after either the plan says nothing and is to be dropped. Whatever the answer, and whatever is dropped, the table shows
+    /// the same as before.
+    pub fn reserve(
+        &mut self,
+        plan: &mut Plan,
+        reference: u64,
+        labels: &LabelSet,
+    ) -> Result<Ready, BindFault>
+        ensures kept { AreAlike self.old self.new }
+        ensures ready { IfOk result (λ ready. ready ≡ labels.now) }
+        ensures room { (bs : List Binding) → IsReserved self.old bs plan.old → OnOk result (IsReserved self.new (bs ++ (record { reference = reference; labels = labels.now }) ∷ []) plan.new) }
+        ensures full { (bs : List Binding) → IsReserved self.old bs plan.old → result ≡ Err BindFault.Full → Fits self.old.most self.old.series self.old.texts (bs ++ (record { reference = reference; labels = labels.now }) ∷ []) → ⊥ }
+    {
+        let ready = Ready::new(*self.rows.allocator(), labels)?;
+        self.note(plan, labels)?;
+        plan.count(reference, labels)?;
+        self.grow(plan, reference)?;
+        Ok(ready)
+    }
+
+    // Notes in a plan what a label set makes new.
+    fn note(&self, plan: &mut Plan, labels: &LabelSet) -> Result<(), BindFault>
+        ensures plan { (bs : List Binding) (r : ℕ) → IsPlanOf self.now bs plan.old → OnOk result (IsPlanOf self.now (bs ++ (record { reference = r; labels = labels.now }) ∷ []) plan.new) }
+        ensures full { (bs : List Binding) (r : ℕ) → IsPlanOf self.now bs plan.old → result ≡ Err BindFault.Full → Fits self.now.most self.now.series self.now.texts (bs ++ (record { reference = r; labels = labels.now }) ∷ []) → ⊥ }
+        ensures bindings { plan.new.bindings ≡ plan.old.bindings }
+        ensures texts_most { plan.new.texts_most ≡ plan.old.texts_most }
+        ensures high { plan.new.high ≡ plan.old.high }
+    {
+        match self.find_labels(labels) {
+            Some(_) => return Ok(()),
+            None => {}
+        }
+        match plan.series.bind(0, labels) {
+            Ok(bound) => {
+                if !bound.created {
+                    return Ok(());
+                }
+            }
+            Err(_) => return Err(BindFault::Memory),
+        }
+        match self.texts.note(&mut plan.texts, labels) {
+            Ok(()) => {}
+            Err(_) => return Err(BindFault::Memory),
+        }
+        let series = self.len() as u64 + plan.series.len() as u64;
+        let texts = self.texts.len() as u64 + plan.texts.len() as u64;
+        if series > self.most as u64 {
+            return Err(BindFault::Full);
+        }
+        if texts > self.most as u64 {
+            return Err(BindFault::Full);
+        }
+        Ok(())
+    }
+
+    // Makes room for as much as a plan counts, and for the slot of a reference.
+    fn grow(&mut self, plan: &Plan, reference: u64) -> Result<(), AllocError>
+        ensures kept { AreAlike self.old self.new }
+        ensures rows { OnOk result (plan.now.bindings ≤ self.new.room.rows) }
+        ensures lower_bounds { OnOk result (plan.now.bindings ≤ self.new.room.lower_bounds) }
+        ensures last_by_hash { OnOk result (plan.now.bindings ≤ self.new.room.last_by_hash) }
+        ensures texts { OnOk result (plan.now.texts_most ≤ self.new.room.texts) }
+        ensures places { self.old.room.places ≤ self.new.room.places }
+        ensures place { OnOk result (reference < low_end → reference < self.new.room.places) }
+        ensures high { OnOk result (plan.now.high ≤ self.new.room.high) }
+    {
+        self.rows.reserve(plan.bindings)?;
+        self.lower_bounds.reserve(plan.bindings)?;
+        self.last_by_hash.reserve(plan.bindings)?;
+        self.texts.reserve(plan.texts_most)?;
+        self.slots.make_room(reference, plan.high)?;
+        Ok(())
+    }
+
+    /// Binds a reference to a label set from here on, as `bind` does, out of what `reserve` gave. It can't fail, and no memory
+    /// is taken.
+    pub fn bind_ready(&mut self, reference: u64, labels: &LabelSet, ready: Ready) -> Bound
+        requires ready { ready ≡ labels.now }
+        requires room { HasRoom self.old ((record { reference = reference; labels = labels.now }) ∷ []) }
+        ensures series { self.new.series ≡ with_series self.old.series labels.now }
+        ensures slot { place (same_labels labels.now) self.new.series ≡ Some result.slot }
+        ensures within { result.slot < length self.new.series }
+        ensures created { result.created ≡ not (has_series self.old.series labels.now) }
+        ensures slots { IsWith (slot_at self.old) reference result.slot (slot_at self.new) }
+        ensures greatest { self.new.greatest ≡ with_greatest self.old.greatest reference }
+        ensures texts { self.new.texts ≡ texts_with self.old labels.now }
+        ensures most { self.new.most ≡ self.old.most }
+        // What there was room for besides, there still is.
+        ensures left { (bs : List Binding) → HasRoom self.old ((record { reference = reference; labels = labels.now }) ∷ bs) → HasRoom self.new bs }
+        // What the bindings so far and this one say.
+        ensures table { (bs : List Binding) → IsTableOf bs self.old → IsTableOf (bs ++ (record { reference = reference; labels = labels.now }) ∷ []) self.new }
+    {
+        match self.find_labels(labels) {
+            Some(slot) => {
+                self.point_ready(reference, slot);
+                let created = false;
+                Bound { slot, created }
+            }
+            None => {
+                let slot = self.create_ready(reference, labels, ready);
+                let created = true;
+                Bound { slot, created }
             }
         }
     }

@@ -37,6 +37,8 @@ mod postings;
 #[cfg(test)]
 mod replays;
 #[cfg(test)]
+mod rooms;
+#[cfg(test)]
 mod series;
 
 #[cfg(test)]

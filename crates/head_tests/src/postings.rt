@@ -1,10 +1,12 @@
 //! Postings, of slots that are added one by one or merged.
 
-ghost use Rattle.std.specs.Prelude.{◌↔◌, ◌<◌, IsTrue};
+ghost use Rattle.std.specs.Prelude.{◌↔◌, ◌<◌, ◌∷◌, [], List, IsTrue, OnOk};
 ghost use Rattle.std.specs.List.{All};
+ghost use Rattle.head_postings.specs.Postings.{Labels};
+ghost use Rattle.head_postings.specs.Room.{HasRoom, IsReserved};
 
 use crate::{indices, same};
-use head_postings::Postings;
+use head_postings::{Batch, Postings};
 use head_series::Slot;
 use std::alloc::{AllocError, Global};
 use std::process::Abort;
@@ -277,4 +279,86 @@ fn a_common_slot_stands_once(rt: HostRuntime) -> Result<(), AllocError> {
         &FOUR_AND_SEVEN[1..],
         &TWICE,
     )
+}
+
+// A slot with its labels, for which there is room. It has to be past those that are there.
+fn add_ready(postings: &mut Postings, number: u32, labels: &LabelSet) -> Result<(), AllocError>
+    requires { HasRoom postings.old (labels.now ∷ []) }
+    ensures left { OnOk result ((rest : List Labels) → HasRoom postings.old (labels.now ∷ rest) → HasRoom postings.new rest) }
+{
+    if !are_below(postings.all(), number) {
+        return Err(AllocError);
+    }
+    postings.add_ready(Slot::new(number), labels);
+    Ok(())
+}
+
+fn make_room_for_both(
+    postings: &mut Postings,
+    batch: &mut Batch,
+    first: &LabelSet,
+    second: &LabelSet,
+) -> Result<(), AllocError>
+    requires { IsReserved postings.old [] batch.old }
+    ensures { OnOk result (HasRoom postings.new (first.now ∷ second.now ∷ [])) }
+{
+    postings.make_room(batch, first)?;
+    postings.make_room(batch, second)?;
+    Ok(())
+}
+
+// Two slots that have a label together: whether there is room for both or not, no list is changed; then both are added.
+fn check_ready(
+    rt: &impl Abort,
+    alloc: Global,
+    postings: &mut Postings,
+    first: &LabelSet,
+    second: &LabelSet,
+) -> Result<(), AllocError> {
+    let mut batch = postings.batch();
+    let made = make_room_for_both(postings, &mut batch, first, second);
+    drop(batch);
+    check_shown(rt, alloc, postings, &THREE)?;
+    made?;
+    add_ready(postings, 3, first)?;
+    check_shown(rt, alloc, postings, &FOUR)?;
+    add_ready(postings, 4, second)?;
+    check_shown(rt, alloc, postings, &FIVE)
+}
+
+const FOUR: Shown = Shown {
+    all: &[0, 1, 2, 3],
+    labels: &[
+        (JOB_A, &[1, 3]),
+        (JOB_B, &[0]),
+        (ZONE_C, &[2, 3]),
+        (ZONE_D, &[]),
+    ],
+};
+
+const FIVE: Shown = Shown {
+    all: &[0, 1, 2, 3, 4],
+    labels: &[
+        (JOB_A, &[1, 3, 4]),
+        (JOB_B, &[0]),
+        (ZONE_C, &[2, 3]),
+        (ZONE_D, &[4]),
+        ((b"job", b"z"), &[]),
+        ((b"", b"a"), &[]),
+    ],
+};
+
+fn check_batch(rt: &impl Abort, alloc: Global, postings: &mut Postings) -> Result<(), AllocError> {
+    add_all(alloc, postings, &THREE_SERIES.entries)?;
+    let first = label_set(alloc, &[JOB_A, ZONE_C])?;
+    let second = label_set(alloc, &[JOB_A, ZONE_D])?;
+    check_ready(rt, alloc, postings, &first, &second)
+}
+
+#[test]
+fn a_batch_of_two_sets_with_a_common_label(rt: HostRuntime) -> Result<(), AllocError> {
+    let mut postings = Postings::new(rt.alloc());
+    let outcome = check_batch(&rt, rt.alloc(), &mut postings);
+    drop(postings);
+    outcome
 }

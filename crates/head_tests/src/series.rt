@@ -9,20 +9,20 @@ use wal_record::LabelSet;
 
 // A reference that is bound to the label a with a value, and the slot that it gets with whether that is new. There is no slot
 // where the table is full.
-type Binding = (u64, u8, Option<(usize, bool)>);
+pub(crate) type Binding = (u64, u8, Option<(usize, bool)>);
 
 // What a table shows.
 #[derive(Drop)]
-struct Shown<'a> {
+pub(crate) struct Shown<'a> {
     // slots, the values of their label a, and their least references
-    series: &'a [(u32, u8, Option<u64>)],
+    pub(crate) series: &'a [(u32, u8, Option<u64>)],
     // references, and their slots
-    references: &'a [(u64, usize)],
-    next_reference: Option<u64>,
+    pub(crate) references: &'a [(u64, usize)],
+    pub(crate) next_reference: Option<u64>,
     // the order of the first two series
-    order: Option<Ordering>,
+    pub(crate) order: Option<Ordering>,
     // a value that no series has
-    absent: u8,
+    pub(crate) absent: u8,
 }
 
 // What a table with a limit makes of bindings, and its copy of more bindings.
@@ -36,7 +36,7 @@ struct Case<'a> {
 }
 
 // The one label a with the value.
-fn label_set(alloc: Global, value: u8) -> Result<LabelSet, AllocError> {
+pub(crate) fn label_set(alloc: Global, value: u8) -> Result<LabelSet, AllocError> {
     let mut labels = LabelSet::new(alloc);
     match labels.push(b"a", &[value]) {
         Ok(()) => Ok(labels),
@@ -101,7 +101,7 @@ fn order(table: &SeriesTable) -> Option<Ordering> {
     Some(table.compare(Slot::new(0), Slot::new(1)))
 }
 
-fn check_shown(
+pub(crate) fn check_shown(
     rt: &impl Abort,
     alloc: Global,
     table: &SeriesTable,
@@ -121,7 +121,7 @@ fn check_shown(
     Ok(())
 }
 
-fn check_after(
+pub(crate) fn check_after(
     rt: &impl Abort,
     alloc: Global,
     table: &mut SeriesTable,

@@ -24,7 +24,7 @@ pub(crate) fn push_labels(text: &mut String, labels: &LabelSet) -> Result<(), Al
     Ok(())
 }
 
-type Pairs = &'static [(&'static [u8], &'static [u8])];
+pub(crate) type Pairs = &'static [(&'static [u8], &'static [u8])];
 
 // Pushes pairs, and notes each that is refused.
 fn push_all(

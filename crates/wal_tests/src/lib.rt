@@ -6,6 +6,8 @@ mod bytes;
 #[cfg(test)]
 mod cases;
 #[cfg(test)]
+mod encoders;
+#[cfg(test)]
 mod labels;
 #[cfg(test)]
 mod logs;
@@ -15,3 +17,5 @@ mod pages;
 mod plans;
 #[cfg(test)]
 mod records;
+#[cfg(test)]
+mod segments;

@@ -1,10 +1,6 @@
-use Rattle.std.proofs.Common.{ℕ, suc, ◌<◌, List, [], ◌∷◌, length, get_or, refl, sym, arith}
-use Rattle.head_postings.specs.Slots.{AreBelow}
+use Rattle.std.proofs.Common.{refl, sym}
+use Rattle.head_tests.proofs.Below.{below}
 use Rattle.head_tests.proofs.postings.add.Goals as goal
-
-below : (s : ℕ) (ts : List ℕ) → ((k d : ℕ) → k < length ts → get_or ts k d < s) → AreBelow s ts
-below s [] each = tt
-below s (t ∷ ts) each = (each 0 0 (omega arith), below s ts (λ k d h. each (suc k) d (omega arith)))
 
 pub add-requires : goal.add-requires
 add-requires c =

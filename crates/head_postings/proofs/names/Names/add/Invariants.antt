@@ -4,4 +4,4 @@ use Rattle.head_postings.specs.Postings.{slots_of}
 use Rattle.head_postings.proofs.names.Names.add.Given as goal
 
 abbrev pub invariant-loop-i : goal.invariant-loop-i
-invariant-loop-i l = (n v : List ℕ) → slots_of l.self n v ≡ slots_of l.fn.self n v ++ given l.slot (take l.i l.labels) n v
+invariant-loop-i l = (n v : List ℕ) → slots_of l.self.slots n v ≡ slots_of l.fn.self.slots n v ++ given l.slot (take l.i l.labels) n v

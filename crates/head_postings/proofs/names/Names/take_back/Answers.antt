@@ -7,6 +7,6 @@ pub loop-left-preserved : goal.loop-left-preserved
 loop-left-preserved c =
     let i = c.loop-left.left - 1 in (
       omega arith,
-      λ s n v before h. given_back s c.args.labels.now i c.loop-left.left (label c.pair.result.0.now c.pair.result.1.now) n v before (slots_of c.loop-left.self n v) (slots_of c.pop.new.self n v)
+      λ s n v before h. given_back s c.args.labels.now i c.loop-left.left (label c.pair.result.0.now c.pair.result.1.now) n v before (slots_of c.loop-left.self.slots n v) (slots_of c.pop.new.self.slots n v)
           c.pair.ensures (omega (arith, c.loop-left-test.true)) (c.loop-left.invariant.1 s n v before h) (c.pop.ensures n v),
     )

@@ -4,4 +4,4 @@ use Rattle.head_postings.proofs.Kept.{bytes}
 use Rattle.head_postings.proofs.values.Values.copy.Given as goal
 
 abbrev pub invariant-loop-i : goal.invariant-loop-i
-invariant-loop-i l = seen bytes bytes l.lists.entries ≡ take l.i l.self
+invariant-loop-i l = seen bytes bytes l.lists.entries ≡ take l.i l.self.slots

@@ -21,7 +21,7 @@ loop-value-preserved c v =
     let o = c.in-Some.slots in
     let old = c.loop-value.lists.entries in
     let new = c.pop.new.self.entries in
-    union_step (same_text v k.items) (listed c.args.self.now v) (listed c.args.other v) (listed c.loop-value.self v) (listed (seen bytes bytes old) v) o.items (listed c.absorb.new.self v) (listed (seen bytes bytes new) v)
+    union_step (same_text v k.items) (listed c.args.self.now.slots v) (listed c.args.other.slots v) (listed c.loop-value.self.slots v) (listed (seen bytes bytes old) v) o.items (listed c.absorb.new.self.slots v) (listed (seen bytes bytes new) v)
     (c.loop-value.invariant v)
     (put_popped bytes k o old new c.in-Some.ensures.entries c.in-Some.ensures.updates.1 v)
     (gone bytes k.items new c.in-Some.ensures.updates.1 v)

@@ -18,7 +18,7 @@ invariant_of-self-2 c =
     c.self.inside.slots c.reserve-4.new.self c.set.new.self c.args.labels.now c.args.reference c.hash_of-hash.result c.len-slot.result
     c.self.invariant c.in-Ok.ensures.texts c.in-Ok.ensures.most c.in-Ok.ensures.within c.in-Ok.ensures.numbers
     (c.len-slot.ensures ∙ c.self.inside.rows.ok.0) (omega (arith, c.if-slot-self.false)) c.hash_of-hash.ensures.ordered (ap (λ z. has_series z c.args.labels.now) seen ∙ c.requires.new) c.hash_of-hash.ensures.hash
-    c.in_ok-reserve-3.ensures.entries c.last_with-previous.ensures c.note_last.ensures c.in_ok-reserve-4.ensures.same c.set.ensures
+    c.in_ok-reserve-3.ensures.entries c.last_with-previous.ensures c.note_last.ensures.lasts c.in_ok-reserve-4.ensures.same c.set.ensures.with
     (c.push_reserved.ensures.items ∙ ap (λ z. z ++ row ∷ []) c.in_ok-reserve.ensures.items)
     (c.push_reserved-2.ensures.items ∙ ap (λ z. z ++ c.args.reference ∷ []) c.in_ok-reserve-2.ensures.items) in
     made.1
@@ -32,7 +32,7 @@ returns-clause-series c =
     c.self.inside.slots c.reserve-4.new.self c.set.new.self c.args.labels.now c.args.reference c.hash_of-hash.result c.len-slot.result
     c.self.invariant c.in-Ok.ensures.texts c.in-Ok.ensures.most c.in-Ok.ensures.within c.in-Ok.ensures.numbers
     (c.len-slot.ensures ∙ c.self.inside.rows.ok.0) (omega (arith, c.if-slot-self.false)) c.hash_of-hash.ensures.ordered (ap (λ z. has_series z c.args.labels.now) seen ∙ c.requires.new) c.hash_of-hash.ensures.hash
-    c.in_ok-reserve-3.ensures.entries c.last_with-previous.ensures c.note_last.ensures c.in_ok-reserve-4.ensures.same c.set.ensures
+    c.in_ok-reserve-3.ensures.entries c.last_with-previous.ensures c.note_last.ensures.lasts c.in_ok-reserve-4.ensures.same c.set.ensures.with
     (c.push_reserved.ensures.items ∙ ap (λ z. z ++ row ∷ []) c.in_ok-reserve.ensures.items)
     (c.push_reserved-2.ensures.items ∙ ap (λ z. z ++ c.args.reference ∷ []) c.in_ok-reserve-2.ensures.items) in
     made.0 ∙ ap (λ z. z ++ c.args.labels.now ∷ []) seen
@@ -59,4 +59,4 @@ returns-in-Err-Memory-clause-kept c =
 pub returns-clause-slots : goal.returns-clause-slots
 returns-clause-slots c =
     with_shown c.args.self.now c.self.inside.slots c.set.new.self c.args.reference c.new.result (ap (λ t. t.slots) c.self.view_is)
-    (λ q. c.set.ensures q ∙ ap (λ o. if c.args.reference == q then Some c.len-slot.result else o) (c.in_ok-reserve-4.ensures.same q) ∙ ap (λ n. if c.args.reference == q then Some n else slot_of c.self.inside.slots q) (sym c.new.ensures))
+    (λ q. c.set.ensures.with q ∙ ap (λ o. if c.args.reference == q then Some c.len-slot.result else o) (c.in_ok-reserve-4.ensures.same q) ∙ ap (λ n. if c.args.reference == q then Some n else slot_of c.self.inside.slots q) (sym c.new.ensures))

@@ -1,8 +1,7 @@
-use Rattle.std.proofs.Common.{None, List, ap, ◌∙◌, refl}
+use Rattle.std.proofs.Common.{List, ap, ◌∙◌, refl}
 use Rattle.std.specs.Prelude.{map}
 use Rattle.head_series.specs.declared.rows.Row.{Row}
 use Rattle.head_series.specs.Rows.{labels_in}
-use Rattle.head_series.specs.ReferenceSlots.{pairs_of}
 use Rattle.head_series.proofs.SlotLemmas.{shown_slot}
 use Rattle.head_series.proofs.BindLemmas.{table_of_none}
 use Rattle.head_series.proofs.table.SeriesTable.new.Goals as goal
@@ -11,5 +10,5 @@ pub returns-clause-slots : goal.returns-clause-slots
 returns-clause-slots c r = shown_slot c.new-5.result r ∙ c.new-5.ensures r
 
 pub returns-clause-table : goal.returns-clause-table
-returns-clause-table c = table_of_none (record { series = map (labels_in c.new.result.texts) (map (λ (r : Row). r.numbers.items) c.new-2.result.items); slots = pairs_of c.new-5.result; greatest = None; texts = c.new.result.texts; most = c.args.most })
+returns-clause-table c = table_of_none _
     (ap (λ (rs : List Row). map (labels_in c.new.result.texts) (map (λ (r : Row). r.numbers.items) rs)) c.new-2.ensures.items) (λ r. shown_slot c.new-5.result r ∙ c.new-5.ensures r) refl c.new.ensures.texts

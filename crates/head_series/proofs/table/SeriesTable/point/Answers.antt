@@ -1,11 +1,7 @@
-use Rattle.std.proofs.Common.{rules, ◌≡◌, ◌<◌, ◌≤◌, ap, ◌∙◌, refl, length, arith}
-use Rattle.std.specs.Prelude.{map, slice_index}
-use Rattle.std.proofs.lemmas.List.{get_or_default, length-map}
-use Rattle.head_series.specs.declared.rows.Row.{Row}
-use Rattle.head_series.specs.ReferenceSlots.{slot_of}
-use Rattle.head_series.specs.Table.{IsWith}
-use Rattle.head_series.proofs.Shown.{alike_shown, on_err, with_shown}
-use Rattle.head_series.proofs.SoundLemmas.{IsSound-point}
+use Rattle.std.proofs.Common.{Some, ap, sym, ◌∙◌, refl}
+use Rattle.std.specs.Prelude.{◌==◌, if◌then◌else◌}
+use Rattle.head_series.proofs.Shown.{alike_shown, on_err, slot_shown}
+use Rattle.head_series.proofs.SlotLemmas.{shown_slot}
 use Rattle.head_series.proofs.table.SeriesTable.point.Goals as goal
 
 pub returns-in_err-reserve-clause-kept : goal.returns-in_err-reserve-clause-kept
@@ -14,19 +10,8 @@ returns-in_err-reserve-clause-kept c =
     (alike_shown c.args.self.now _ c.self.inside.slots c.reserve.new.self (ap (λ t. t.slots) c.self.view_is) refl
     (ap (λ t. t.series) c.self.view_is) (ap (λ t. t.greatest) c.self.view_is) (ap (λ t. t.texts) c.self.view_is) (ap (λ t. t.most) c.self.view_is) c.reserve.ensures.same)
 
-pub invariant_of-self-2 : goal.invariant_of-self-2
-invariant_of-self-2 c =
-    let with : IsWith (slot_of c.self.inside.slots) c.args.reference c.args.slot (slot_of c.set.new.self) = search rules in
-    let at : c.index-3.result ≡ c.args.slot = c.index-3.ensures in
-    let many = simp length-map at (ap length (ap (λ t. t.series) c.self.view_is)) in
-    let rows : length (map (λ (r : Row). r.numbers.items) c.self.inside.rows.items) ≡ length c.self.inside.rows.items = (simp length-map) in
-    let within : c.args.slot < length (map (λ (r : Row). r.numbers.items) c.self.inside.rows.items) = omega (arith, many, rows, c.requires) in
-    let bound : c.index-2.result.now ≡ slice_index c.self.inside.lower_bounds.items c.args.slot = c.index-2.ensures ∙ get_or_default c.self.inside.lower_bounds.items c.index.result _ 0 (omega (arith, within, c.self.invariant.hinted, c.index.ensures)) ∙ ap (slice_index c.self.inside.lower_bounds.items) c.index.ensures in
-    let old : c.lesser-lower_bound.result ≤ slice_index c.self.inside.lower_bounds.items c.args.slot = omega (arith, bound, c.lesser-lower_bound.ensures.first) in
-    IsSound-point c.self.inside.texts c.self.inside.most (map (λ (r : Row). r.numbers.items) c.self.inside.rows.items) (map (λ (r : Row). r.previous) c.self.inside.rows.items) c.self.inside.last_by_hash.entries c.self.inside.lower_bounds.items
-    c.self.inside.slots c.set.new.self c.args.reference c.args.slot c.index-3.result c.lesser-lower_bound.result c.self.invariant within at with old c.lesser-lower_bound.ensures.second
-
 pub returns-clause-slots : goal.returns-clause-slots
-returns-clause-slots c =
-    let with : IsWith (slot_of c.self.inside.slots) c.args.reference c.args.slot (slot_of c.set.new.self) = search rules in
-    with_shown c.args.self.now c.self.inside.slots c.set.new.self c.args.reference c.args.slot (ap (λ t. t.slots) c.self.view_is) with
+returns-clause-slots c q =
+    c.point_ready.ensures.slots q
+    ∙ ap (λ o. if c.args.reference == q then Some c.args.slot else o)
+    (shown_slot c.reserve.new.self q ∙ c.reserve.ensures.same q ∙ sym (slot_shown c.args.self.now c.self.inside.slots (ap (λ t. t.slots) c.self.view_is) q))

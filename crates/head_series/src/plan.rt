@@ -1,0 +1,79 @@
+//! What bindings that are yet to be made will need.
+
+ghost use Rattle.std.specs.Prelude.{◌≡◌, ◌+◌, ◌*◌, [], length, OnOk};
+ghost use Rattle.head_series.specs.Room.{high_one};
+
+use crate::interner::Interner;
+use crate::reference_slots::LOW_END;
+use crate::table::SeriesTable;
+use std::alloc::{AllocError, Global};
+use std::marker::Model;
+use wal_record::LabelSet;
+
+/// What a list of bindings, yet to be made in one table, makes new there, and how much room they need at most. Contracts see
+/// it as a `Planned`. `SeriesTable::plan` makes one, and `SeriesTable::reserve` notes a binding in it.
+#[derive(Debug)]
+pub struct Plan {
+    pub(crate) series: SeriesTable,
+    pub(crate) texts: Interner,
+    pub(crate) bindings: usize,
+    pub(crate) texts_most: usize,
+    pub(crate) high: usize,
+}
+
+// Written out: where another function lets go of a plan, its proof has one call, and not a copy of this.
+impl Drop for Plan {
+    fn drop(self) {
+        let Plan {
+            series: _series,
+            texts: _texts,
+            bindings: _,
+            texts_most: _,
+            high: _,
+        } = self;
+    }
+}
+
+impl Model for Plan {
+    ghost use Rattle.head_series.specs.Room.{Planned};
+
+    ghost Value = { Planned };
+
+    ghost view = { λ p. record { series = p.series.series; texts = p.texts.texts; bindings = p.bindings; texts_most = p.texts_most; high = p.high } };
+}
+
+impl Plan {
+    // No bindings yet.
+    pub(crate) fn new(alloc: Global) -> Plan
+        ensures series { result.series ≡ [] }
+        ensures texts { result.texts ≡ [] }
+        ensures bindings { result.bindings ≡ 0 }
+        ensures texts_most { result.texts_most ≡ 0 }
+        ensures high { result.high ≡ 0 }
+    {
+        Plan {
+            series: SeriesTable::new(alloc, u32::MAX),
+            texts: Interner::new(alloc, u32::MAX),
+            bindings: 0,
+            texts_most: 0,
+            high: 0,
+        }
+    }
+
+    // Counts one binding more.
+    pub(crate) fn count(&mut self, reference: u64, labels: &LabelSet) -> Result<(), AllocError>
+        ensures series { self.new.series ≡ self.old.series }
+        ensures texts { self.new.texts ≡ self.old.texts }
+        ensures bindings { OnOk result (self.new.bindings ≡ self.old.bindings + 1) }
+        ensures texts_most { OnOk result (self.new.texts_most ≡ self.old.texts_most + 2 * length labels.now) }
+        ensures high { OnOk result (self.new.high ≡ self.old.high + high_one reference) }
+    {
+        self.bindings = self.bindings.checked_add(1).ok_or(AllocError)?;
+        let names = self.texts_most.checked_add(labels.len()).ok_or(AllocError)?;
+        self.texts_most = names.checked_add(labels.len()).ok_or(AllocError)?;
+        if reference >= LOW_END {
+            self.high = self.high.checked_add(1).ok_or(AllocError)?;
+        }
+        Ok(())
+    }
+}

@@ -1,0 +1,70 @@
+//! What a new label set needs, made beforehand.
+
+ghost use Rattle.std.specs.Prelude.{◌≡◌, ◌≤◌, [], length, map, reverse, IfOk};
+ghost use Rattle.std.specs.Vec.{vec_capacity};
+ghost use Rattle.head_series.specs.Rows.{label};
+
+use std::alloc::{AllocError, Global};
+use std::marker::Model;
+use wal_record::LabelSet;
+
+/// What binding a label set needs where that is new: copies of its texts, and a list with room for their numbers. Contracts
+/// see the label set.
+#[derive(Debug)]
+pub struct Ready {
+    // the last label first
+    texts: Vec<(Vec<u8>, Vec<u8>)>,
+    numbers: Vec<(u32, u32)>,
+}
+
+// Written out: where another function lets go of these, its proof has one call, and not a copy of this.
+impl Drop for Ready {
+    fn drop(self) {
+        let Ready {
+            texts: _texts,
+            numbers: _numbers,
+        } = self;
+    }
+}
+
+impl Model for Ready {
+    ghost use Rattle.std.specs.Prelude.{◌≡◌, ◌≤◌, [], length, map, reverse};
+    ghost use Rattle.std.specs.Vec.{vec_capacity};
+    ghost use Rattle.head_series.specs.Rows.{label};
+    ghost use Rattle.head_series.specs.Table.{Labels};
+
+    ghost Value = { Labels };
+
+    ghost view = { λ r. reverse (map (λ p. label p.0.items p.1.items) r.texts.items) };
+
+    ghost invariant = { λ r. (r.numbers.items ≡ []) × (length r.texts.items ≤ vec_capacity r.numbers) };
+}
+
+impl Ready {
+    /// What the label set needs, whatever table it is for. The error says that memory ran out.
+    pub fn new(alloc: Global, labels: &LabelSet) -> Result<Ready, AllocError>
+        ensures { IfOk result (λ ready. ready ≡ labels.now) }
+    {
+        let numbers = Vec::with_capacity(alloc, labels.len())?;
+        let mut texts = Vec::with_capacity(alloc, labels.len())?;
+        let mut left = labels.len();
+        while left > 0 {
+            left -= 1;
+            let (name, value) = labels.pair(left);
+            let name = Vec::from_slice(alloc, name)?;
+            let value = Vec::from_slice(alloc, value)?;
+            texts.push((name, value))?;
+        }
+        Ok(Ready { texts, numbers })
+    }
+
+    // The texts, the last label first, and the list with room for their numbers.
+    pub(crate) fn into_parts(self) -> (Vec<(Vec<u8>, Vec<u8>)>, Vec<(u32, u32)>)
+        ensures texts { reverse (map (λ p. label p.0.items p.1.items) result.0.items) ≡ self }
+        ensures numbers { result.1.items ≡ [] }
+        ensures room { length result.0.items ≤ vec_capacity result.1 }
+    {
+        let Ready { texts, numbers } = self;
+        (texts, numbers)
+    }
+}
