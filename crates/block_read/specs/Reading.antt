@@ -1,4 +1,4 @@
--- What is read of a block, part by part.
+-- Words of proofs and of private functions, cited by no public contract: what is read of a block, part by part.
 use Rattle.std.specs.Prelude.{◌≡◌, ℕ, ℤ, pos, ◌+ℤ◌, All, IsTrue, ◌<◌, ◌%◌, ◌<ℤ◌, List, [], ◌∷◌, length, map}
 use Rattle.std.specs.List.{AllByRecursion, flat_map, zip}
 use Rattle.head_column.specs.declared.items.Sample.{Sample}
