@@ -9,3 +9,6 @@ pub mod Taking
 pub mod Binding
 pub mod Whole
 pub mod OneContent
+pub mod RoomLemmas
+pub mod CountRoom
+pub mod DraftLemmas

@@ -6,10 +6,16 @@ use Rattle.head_postings.specs.Slots.{AreBelow}
 use Rattle.head_postings.specs.Postings.{Lists}
 use Rattle.head_core.specs.Content.{Content, series_limit}
 
--- the content of a head, and whether it has failed
+-- how many columns more go in with no memory, and how many items more each column takes
+pub record ColumnRoom : Type 0 where
+  pub columns : ℕ
+  pub spares : List ℕ
+
+-- The content of a head, and whether it has failed. And, of which no call tells, the room of its columns.
 pub record HeadValue : Type 0 where
   pub content : Content
   pub failed : Bool
+  pub room : ColumnRoom
 
 -- the history of the series in a slot
 abbrev pub history_at : Content → ℕ → History

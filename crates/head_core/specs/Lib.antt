@@ -3,3 +3,5 @@ pub mod Counts
 pub mod Content
 pub mod Steps
 pub mod Heads
+pub mod Room
+pub mod Draft

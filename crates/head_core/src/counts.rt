@@ -1,12 +1,15 @@
 //! How many records and entries there were of each kind.
 
-ghost use Rattle.std.specs.Prelude.{◌≡◌, ◌+◌, ◌<◌, Err, IsOk, OnErr, OnOk};
+ghost use Rattle.std.specs.Prelude.{◌≡◌, ◌↔◌, ◌+◌, ◌<◌, ◌≤◌, [], All, Err, None, IfSome, IsOk, IsTrue, OnErr, OnOk, length};
+ghost use Rattle.wal_record.specs.Entries.{entries_in, entries_of};
 ghost use Rattle.head_core.specs.Content.{count_limit};
 ghost use Rattle.head_core.specs.Counts.{fate_of, unknown_fate};
+ghost use Rattle.head_core.specs.Room.{HaveClasses, HaveCounts};
 ghost use Rattle.head_core.specs.Steps.{count_of_fate, no_counts, with_fate};
 
 use crate::fault::HeadFault;
 use head_column::{Item, Outcome};
+use wal_record::WalRecord;
 
 /// The counts of a log, in the order in which they are printed. A deletion is a *stone*.
 #[derive(Clone, Copy, Debug, PartialEq, Eq)]
@@ -42,6 +45,43 @@ pub(crate) fn one_more(count: &mut u64) -> Result<(), HeadFault>
     }
 }
 
+// How many entries the record has.
+fn entry_count(log_record: &WalRecord) -> usize
+    ensures { result ≡ length (entries_in log_record.now) }
+{
+    match log_record {
+        WalRecord::Series(entries) => entries.len(),
+        WalRecord::Samples(entries) => entries.len(),
+        WalRecord::Stones(entries) => entries.len(),
+        WalRecord::Other(_) => 0,
+    }
+}
+
+// How many entries the records have, if that has 64 bits.
+fn count_entries(records: &[WalRecord]) -> Option<u64>
+    ensures some { IfSome result (λ many. many ≡ length (entries_of records.now)) }
+    ensures none { result ≡ None → count_limit < length (entries_of records.now) }
+{
+    let mut many: u64 = 0;
+    for log_record in records {
+        many = many.checked_add(entry_count(log_record) as u64)?;
+    }
+    Some(many)
+}
+
+// Whether each of these can be raised by so much.
+fn all_fit(counts: &[u64], more: u64) -> bool
+    ensures fit { IsTrue result ↔ All (λ count. count + more ≤ count_limit) counts.now }
+    ensures nothing { more ≡ 0 → IsTrue result }
+{
+    for count in counts {
+        if *count > u64::MAX - more {
+            return false;
+        }
+    }
+    true
+}
+
 impl Counts {
     // The counts of no records.
     pub(crate) fn new() -> Counts
@@ -60,6 +100,43 @@ impl Counts {
             empty_stones: 0,
             unknown_stones: 0,
         }
+    }
+
+    // Whether each count has room for all entries of the records, and each count of records for all records.
+    pub(crate) fn check_room(&self, records: &[WalRecord]) -> Result<(), HeadFault>
+        ensures counts { OnOk result (HaveCounts self.now (entries_of records.now)) }
+        ensures classes { OnOk result (HaveClasses self.now records.now) }
+        ensures full { result ≡ Err HeadFault.Full → HaveCounts self.now (entries_of records.now) → HaveClasses self.now records.now → ⊥ }
+        ensures limit { (HaveCounts self.now (entries_of records.now) × HaveClasses self.now records.now → ⊥) → result ≡ Err HeadFault.Full }
+        ensures nothing { records.now ≡ [] → IsOk result }
+        ensures fault { result ≡ Err HeadFault.Memory → ⊥ }
+        ensures sound { result ≡ Err HeadFault.Failed → ⊥ }
+    {
+        let Some(entries) = count_entries(records) else {
+            return Err(HeadFault::Full);
+        };
+        let classes = [
+            self.series_records,
+            self.sample_records,
+            self.stone_records,
+            self.skipped_records,
+        ];
+        let fates = [
+            self.series_entries,
+            self.accepted,
+            self.stale,
+            self.unknown,
+            self.hiding,
+            self.empty_stones,
+            self.unknown_stones,
+        ];
+        if !all_fit(&classes, records.len() as u64) {
+            return Err(HeadFault::Full);
+        }
+        if !all_fit(&fates, entries) {
+            return Err(HeadFault::Full);
+        }
+        Ok(())
     }
 
     // One more of what became of an item.

@@ -6,10 +6,12 @@
 #![tactic(auto)]
 
 mod counts;
+mod draft;
 mod fault;
 mod head;
 mod laws;
 mod replay;
+mod reserved;
 
 pub use counts::Counts;
 pub use fault::HeadFault;
@@ -18,3 +20,4 @@ pub use head_column::{Chunk, Hour, Run, Sample};
 pub use head_series::Slot;
 pub use laws::one_content;
 pub use replay::{ReplayFault, Replayed, replay_serial};
+pub use reserved::Reserved;

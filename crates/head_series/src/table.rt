@@ -262,9 +262,11 @@ impl SeriesTable {
         self.slots.least(number, lower_bound)
     }
 
-    /// One more than the greatest reference that was ever bound, and 1 if none was. `None` if that was 2^64 - 1.
+    /// One more than the greatest reference that was ever bound, and 1 if none was. `None` if that was 2^64 - 1. By `within` a caller
+    /// learns what holds of every table.
     pub fn next_reference(&self) -> Option<u64>
-        ensures { result ≡ after self.now.greatest }
+        ensures next { result ≡ after self.now.greatest }
+        ensures within { IfSome self.now.greatest (λ greatest. greatest < 2 ^ 64) }
     {
         match self.greatest {
             None => Some(1),

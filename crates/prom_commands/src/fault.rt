@@ -80,6 +80,21 @@ pub enum Fault {
     /// The log has more series, label texts or entries than a head may have.
     #[error("too many series")]
     Full,
+    /// A line of the file of rows, counted from 1, is none.
+    #[error("line {line}: not a row")]
+    NotARow { line: u64 },
+    /// A row has a label with no name.
+    #[error("line {line}: empty label name")]
+    EmptyLabelName { line: u64 },
+    /// A row has a label whose name is not past that of the one before it.
+    #[error("line {line}: label names not ascending")]
+    LabelsNotAscending { line: u64 },
+    /// A new label set would need a reference past 2^64 - 1.
+    #[error("references spent")]
+    RefsSpent,
+    /// What is logged of the rows is longer than a segment.
+    #[error("rows do not fit one segment")]
+    SegmentFull,
     #[error("out of memory")]
     OutOfMemory,
 }
@@ -115,6 +130,11 @@ impl Fault {
             | Fault::Gap
             | Fault::TooLarge
             | Fault::Full
+            | Fault::NotARow { .. }
+            | Fault::EmptyLabelName { .. }
+            | Fault::LabelsNotAscending { .. }
+            | Fault::RefsSpent
+            | Fault::SegmentFull
             | Fault::Edge
             | Fault::NotFull
             | Fault::NoSamples => Status::Refused,

@@ -5,13 +5,16 @@ mod commands;
 mod directory;
 mod disk;
 mod fault;
+mod heads;
 mod report;
 mod spelling;
 mod store;
 
 pub use commands::{Answer, Request, carry_out};
-pub use directory::{join, names_in, read_in, read_log};
+pub use directory::{join, names_in, read_in, read_log, written};
 pub use disk::{Disk, read_whole};
 pub use fault::{Fault, Status};
+pub use heads::undamaged_head;
 pub use report::DamageLine;
+pub use spelling::read_pair;
 pub use store::{Store, StoreFault};

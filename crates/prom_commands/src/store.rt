@@ -67,7 +67,8 @@ pub trait Store {
     /// A new directory. It is refused where there is one already.
     fn create_dir(&mut self, path: &str) -> Result<(), StoreFault>;
 
-    /// Moves a file, or a directory with all that is in it, to a path that names nothing yet.
+    /// Moves a file, or a directory with all that is in it. A directory goes to a path that names nothing yet; a file takes the place
+    /// of a file that is there.
     fn rename(&mut self, from: &str, to: &str) -> Result<(), StoreFault>;
 
     fn remove_file(&mut self, path: &str) -> Result<(), StoreFault>;

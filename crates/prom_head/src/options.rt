@@ -3,6 +3,7 @@
 use block_commands::BlockRequest;
 use clap::error::ErrorKind;
 use clap::{Arg, ArgMatches, Command, Error, value_parser};
+use live_commands::AppendRequest;
 use prom_commands::Request;
 use std::alloc::{AllocError, Global};
 
@@ -13,6 +14,8 @@ pub enum Asked<'a> {
     OfLog(Request<'a>),
     /// To cut a log into blocks, or to say what a block holds.
     OfBlocks(BlockRequest<'a>),
+    /// To go on writing a log.
+    Append(AppendRequest<'a>),
 }
 
 // These take the lifetime of the words, though their own texts are static, since the borrow checker does not shorten a
@@ -101,6 +104,18 @@ fn block<'a>(alloc: Global) -> Result<Command<'a>, AllocError> {
         .arg(path)
 }
 
+fn append<'a>(alloc: Global) -> Result<Command<'a>, AllocError> {
+    let rows = Arg::new(alloc, "rows")
+        .long("rows")
+        .value_name("FILE")
+        .help("The rows, a line each: TIME VALUE NAME=VALUE ..")
+        .required(true);
+    Command::new(alloc, "append")
+        .about("Appends rows to the log, in a new segment")
+        .arg(dir(alloc))?
+        .arg(rows)
+}
+
 // A command with one more below it. There is one place where a half-made command is let go, which is dear to prove.
 fn with<'a>(
     command: Command<'a>,
@@ -111,7 +126,7 @@ fn with<'a>(
 
 fn command<'a>(alloc: Global) -> Result<Command<'a>, AllocError> {
     let command = Command::new(alloc, "prom_head")
-        .about("Reads a write-ahead log of samples and cuts it into blocks")
+        .about("Reads a write-ahead log of samples, cuts it into blocks, and goes on writing it")
         .subcommand_required(true)
         .disable_help_subcommand(true);
     let command = with(command, replay(alloc))?;
@@ -119,7 +134,8 @@ fn command<'a>(alloc: Global) -> Result<Command<'a>, AllocError> {
     let command = with(command, series(alloc))?;
     let command = with(command, ranges(alloc))?;
     let command = with(command, cut(alloc))?;
-    with(command, block(alloc))
+    let command = with(command, block(alloc))?;
+    with(command, append(alloc))
 }
 
 fn of_log<'a>(matches: &ArgMatches<'a>) -> Option<Request<'a>> {
@@ -156,11 +172,24 @@ fn of_blocks<'a>(matches: &ArgMatches<'a>) -> Option<BlockRequest<'a>> {
     }
 }
 
-fn requested<'a>(matches: &ArgMatches<'a>) -> Option<Asked<'a>> {
-    match of_log(matches) {
-        Some(request) => Some(Asked::OfLog(request)),
-        None => Some(Asked::OfBlocks(of_blocks(matches)?)),
+fn of_append<'a>(matches: &ArgMatches<'a>) -> Option<AppendRequest<'a>> {
+    match matches.subcommand()? {
+        ("append", of) => Some(AppendRequest {
+            dir: of.get_str("dir")?,
+            rows: of.get_str("rows")?,
+        }),
+        _ => None,
     }
+}
+
+fn requested<'a>(matches: &ArgMatches<'a>) -> Option<Asked<'a>> {
+    if let Some(request) = of_log(matches) {
+        return Some(Asked::OfLog(request));
+    }
+    if let Some(request) = of_blocks(matches) {
+        return Some(Asked::OfBlocks(request));
+    }
+    Some(Asked::Append(of_append(matches)?))
 }
 
 fn matched<'a>(command: &mut Command<'a>, words: &'a [String]) -> Result<Option<Asked<'a>>, Error> {

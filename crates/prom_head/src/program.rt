@@ -3,6 +3,7 @@
 use crate::fault::LineFault;
 use crate::options::{Asked, parse};
 use block_commands::carry_out_block;
+use live_commands::carry_out_append;
 use prom_commands::{Answer, Status, Store, carry_out};
 use std::thread::Threads;
 
@@ -16,6 +17,7 @@ pub fn run<R: AllocGlobal + Threads + Sync, S: Store>(
     match parse(alloc, words) {
         Ok(Asked::OfLog(request)) => Ok(carry_out(alloc, store, request)),
         Ok(Asked::OfBlocks(request)) => Ok(carry_out_block(rt, alloc, store, request)),
+        Ok(Asked::Append(request)) => Ok(carry_out_append(alloc, store, request)),
         Err(error) if error.use_stderr() => Err(LineFault::from(error)),
         Err(help) => Ok(Answer::done(help.to_string(alloc)?, Status::Done)),
     }

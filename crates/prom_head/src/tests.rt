@@ -106,14 +106,22 @@ fn run_line<R: Abort + Threads + Sync + AllocGlobal>(
 }
 
 // Command lines that are refused, and what is said of each first.
-const WRONG_LINES: [(&str, &str); 21] = [
+const WRONG_LINES: [(&str, &str); 23] = [
     (
         "prom_head",
         "error: 'prom_head' requires a subcommand but one was not provided\n",
     ),
     (
+        "prom_head checkpoint log",
+        "error: unrecognized subcommand 'checkpoint'\n",
+    ),
+    (
         "prom_head append log",
-        "error: unrecognized subcommand 'append'\n",
+        "error: the following required arguments were not provided:\n  --rows <FILE>\n",
+    ),
+    (
+        "prom_head append --rows=rows",
+        "error: the following required arguments were not provided:\n  <DIR>\n",
     ),
     ("prom_head help", "error: unrecognized subcommand 'help'\n"),
     (
@@ -197,7 +205,7 @@ fn wrong_arguments(rt: HostRuntime) -> Result<(), AllocError> {
 }
 
 const HELP: &str = "\
-Reads a write-ahead log of samples and cuts it into blocks
+Reads a write-ahead log of samples, cuts it into blocks, and goes on writing it
 
 Usage: prom_head <COMMAND>
 
@@ -208,6 +216,7 @@ Commands:
   ranges   Lists the hours of the log that can be cut
   cut      Cuts an hour of the log into a block
   block    Says what a block holds
+  append   Appends rows to the log, in a new segment
 
 Options:
   -h, --help  Print help
@@ -289,7 +298,20 @@ Options:
   -h, --help  Print help
 ";
 
-const HELP_LINES: [(&str, &str); 9] = [
+const APPEND_HELP: &str = "\
+Appends rows to the log, in a new segment
+
+Usage: prom_head append --rows <FILE> <DIR>
+
+Arguments:
+  <DIR>  The directory of the log: a server's `wal`
+
+Options:
+      --rows <FILE>  The rows, a line each: TIME VALUE NAME=VALUE ..
+  -h, --help         Print help
+";
+
+const HELP_LINES: [(&str, &str); 10] = [
     ("prom_head --help", HELP),
     ("prom_head -h", HELP),
     ("prom_head replay --help", REPLAY_HELP),
@@ -299,6 +321,7 @@ const HELP_LINES: [(&str, &str); 9] = [
     ("prom_head ranges --help", RANGES_HELP),
     ("prom_head cut --help", CUT_HELP),
     ("prom_head block --help", BLOCK_HELP),
+    ("prom_head append --help", APPEND_HELP),
 ];
 
 #[test]
@@ -325,6 +348,8 @@ fn requests(rt: HostRuntime) -> Result<(), AllocError> {
         "prom_head cut --out= --hour=-1 --ulid=7ZZZZZZZZZZZZZZZZZZZZZZZZZ log",
         "prom_head cut log --hour=-9223372036854775808 --ulid 01ARZ3NDEKTSV4RRFFQ69G5FAV --out out",
         "prom_head block out/01ARZ3NDEKTSV4RRFFQ69G5FAV",
+        "prom_head append log --rows rows",
+        "prom_head append --rows= log",
     ] {
         let words = words(rt.alloc(), line)?;
         let mut store = Untouched { was_asked: false };

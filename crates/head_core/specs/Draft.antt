@@ -1,0 +1,86 @@
+-- Words of proofs and of private functions, cited by no public contract: how far room was made for a list of records.
+use Rattle.std.specs.Prelude.{◌≡◌, ℕ, ◌<◌, ◌≤◌, List, [], ◌∷◌, ◌++◌, Option, Some, All, length, count_by, nat_eq, unwrap_or}
+use Rattle.std.specs.Map.{lookup}
+use Rattle.hw_bytes.specs.Lists.{or_else}
+use Rattle.wal_record.specs.Labels.{same_labels}
+use Rattle.wal_record.specs.Entries.{Entry, series, sample, stone}
+use Rattle.head_column.specs.Histories.{ColumnValue, no_history}
+use Rattle.head_series.specs.Texts.{place}
+use Rattle.head_series.specs.Table.{Labels, slot_at, with_series}
+use Rattle.head_series.specs.Room as table_room
+use Rattle.head_postings.specs.Room as postings_room
+use Rattle.head_core.specs.Owners.{bindings}
+use Rattle.head_core.specs.Content.{Content, AreAlike}
+use Rattle.head_core.specs.Heads.{HeadValue}
+use Rattle.head_core.specs.Room.{sets_of, pointed, targets, spare_at, HaveSpare, Made, spares_with}
+
+-- What was made so far, and of the records so far: the label sets that they make new, the slot that each reference will have that they bind, and how many items come to each slot.
+pub record Drafted : Type 0 where
+  pub plan : table_room.Planned
+  pub batch : postings_room.Counted
+  pub made : Made
+  pub series : List Labels
+  pub slots : List (ℕ × ℕ)
+  pub counts : List (ℕ × ℕ)
+
+-- the slot that a reference will have: the one that it is to be bound to, or else the one that it has
+abbrev pub slot_after : Drafted → (ℕ → Option ℕ) → ℕ → Option ℕ
+slot_after d at r = or_else (lookup (nat_eq r) d.slots) (at r)
+
+-- how many items come to a slot
+abbrev pub many_at : Drafted → ℕ → ℕ
+many_at d s = unwrap_or (lookup (nat_eq s) d.counts) 0
+
+-- the slots of the references behind the entries
+abbrev pub slots_behind : List Labels → (ℕ → Option ℕ) → List Entry → ℕ → Option ℕ
+slots_behind ss at [] = at
+slots_behind ss at (series e ∷ es) = slots_behind (with_series ss e.labels) (pointed at e.reference (place (same_labels e.labels) (with_series ss e.labels))) es
+slots_behind ss at (sample s ∷ es) = slots_behind ss at es
+slots_behind ss at (stone d ∷ es) = slots_behind ss at es
+
+-- the entry is an item that comes to the reference
+abbrev pub IsItemEntry : Entry → ℕ → Type 0
+IsItemEntry (series e) r = ⊥
+IsItemEntry (sample s) r = s.reference ≡ r
+IsItemEntry (stone d) r = d.reference ≡ r
+
+-- The draft knows these entries: the series that they make new, behind those before; the slots of their references; and how many items come to each slot.
+pub record IsNoted (ss : List Labels) (at : ℕ → Option ℕ) (d : Drafted) (es : List Entry) : Type 0 where
+  pub series : ss ++ d.series ≡ table_room.series_after ss (bindings es)
+  pub slots : (r : ℕ) → slot_after d at r ≡ slots_behind ss at es r
+  pub within : (r s : ℕ) → lookup (nat_eq r) d.slots ≡ Some s → s < length (ss ++ d.series)
+  pub many : (s : ℕ) → many_at d s ≡ count_by (nat_eq s) (targets ss at es)
+
+-- each new series has a column, to which nothing came
+pub record HaveColumns (d : Drafted) : Type 0 where
+  pub each : length d.made.columns ≡ length d.series
+  pub unused : All (λ c. c.history ≡ no_history) d.made.columns
+
+-- there are more columns, behind those that were there
+abbrev pub IsLonger : List ColumnValue → List ColumnValue → Type 0
+IsLonger cs ds = (more : List ColumnValue) × (ds ≡ cs ++ more)
+
+-- there are as many columns, and each takes as many items as before, if not more
+pub record AreWider (xs ys : List ℕ) : Type 0 where
+  pub many : length ys ≡ length xs
+  pub each : (s : ℕ) → spare_at xs s ≤ spare_at ys s
+
+-- room was made for these entries, but for that in the list of columns
+pub record IsDraft (h : HeadValue) (d : Drafted) (es : List Entry) : Type 0 where
+  pub ready : d.made.ready ≡ sets_of es
+  pub table : table_room.IsReserved h.content.table (bindings es) d.plan
+  pub postings : postings_room.IsReserved h.content.postings (sets_of es) d.batch
+  pub own : length h.room.spares ≡ length h.content.table.series
+  pub columns : HaveColumns d
+  pub noted : IsNoted h.content.table.series (slot_at h.content.table) d es
+  pub spares : HaveSpare (spares_with h.room d.made) (targets h.content.table.series (slot_at h.content.table) es)
+
+-- No call tells the two heads apart, the one has failed if the other has, and they have the same limit.
+pub record IsKept (h k : HeadValue) : Type 0 where
+  pub content : AreAlike h.content k.content
+  pub failed : k.failed ≡ h.failed
+  pub most : k.content.table.most ≡ h.content.table.most
+
+-- neither the series nor their texts pass the limit where these entries are taken
+abbrev pub FitsIn : Content → List Entry → Type 0
+FitsIn c es = table_room.Fits c.table.most c.table.series c.table.texts (bindings es)

@@ -1,0 +1,125 @@
+//! Why rows are refused.
+
+use head_core::HeadFault;
+use std::alloc::{AllocError, AllocFailed};
+use std::error::Error;
+use std::fmt;
+use wal_log::LogFault;
+use wal_record::LabelFault;
+
+/// Why rows were not prepared.
+#[derive(Clone, Copy, Debug, PartialEq, Eq)]
+pub enum PrepareFault {
+    /// The pairs of this row, the first such one, are no label set, for this reason.
+    Labels { row: usize, fault: LabelFault },
+    /// Memory ran out, which says nothing of the rows.
+    Memory,
+}
+
+impl From<AllocError> for PrepareFault {
+    ghost use Rattle.std.specs.Prelude.{◌≡◌};
+    ghost use Rattle.head_live.specs.declared.fault.PrepareFault.TheVariants.{Memory};
+
+    ghost from_gives = { λ _ f. f ≡ Memory };
+
+    fn from(_error: AllocError) -> PrepareFault {
+        PrepareFault::Memory
+    }
+}
+
+impl<T: Drop> From<AllocFailed<T>> for PrepareFault {
+    ghost use Rattle.std.specs.Prelude.{◌≡◌};
+    ghost use Rattle.head_live.specs.declared.fault.PrepareFault.TheVariants.{Memory};
+
+    ghost from_gives = { λ _ f. f ≡ Memory };
+
+    fn from(_error: AllocFailed<T>) -> PrepareFault {
+        PrepareFault::Memory
+    }
+}
+
+/// Why rows were not appended. Of several reasons the first of these is given, but for memory, which may run out at any point.
+#[derive(Clone, Copy, Debug, PartialEq, Eq)]
+pub enum AppendFault {
+    /// An earlier call answered `Write`.
+    Failed,
+    /// A new label set would need a reference past 2^64 - 1.
+    RefsSpent,
+    /// The head would have more series or label texts than a head may have, or one of its counts could pass 2^64 - 1.
+    Full,
+    /// The records do not fit in what is left of the segment.
+    SegmentFull,
+    /// Memory ran out, which says nothing of the rows.
+    Memory,
+    /// The device gave an error, or took nothing. The head is as before, and takes no more rows.
+    Write,
+}
+
+impl fmt::Display for AppendFault {
+    fn fmt<W: fmt::Write>(&self, f: &mut fmt::Formatter<W>) -> fmt::Result {
+        f.write_str(match self {
+            AppendFault::Failed => "the log has failed",
+            AppendFault::RefsSpent => "references spent",
+            AppendFault::Full => "too many series",
+            AppendFault::SegmentFull => "rows do not fit one segment",
+            AppendFault::Memory => "out of memory",
+            AppendFault::Write => "the log cannot be written",
+        })
+    }
+}
+
+impl Error for AppendFault {}
+
+impl From<HeadFault> for AppendFault {
+    ghost use Rattle.std.specs.Prelude.{◌≡◌, ◌↔◌};
+    ghost use Rattle.head_core.specs.declared.fault.HeadFault.TheVariants as head;
+    ghost use Rattle.head_live.specs.declared.fault.AppendFault.TheVariants.{Failed, Full, Memory};
+
+    ghost from_gives = { λ h f. ((f ≡ Failed) ↔ (h ≡ head.Failed)) × ((f ≡ Full) ↔ (h ≡ head.Full)) × ((f ≡ Memory) ↔ (h ≡ head.Memory)) };
+
+    fn from(fault: HeadFault) -> AppendFault {
+        match fault {
+            HeadFault::Failed => AppendFault::Failed,
+            HeadFault::Full => AppendFault::Full,
+            HeadFault::Memory => AppendFault::Memory,
+        }
+    }
+}
+
+impl From<LogFault> for AppendFault {
+    ghost use Rattle.head_live.specs.Faults.{of_log};
+    ghost use Rattle.std.specs.Prelude.{◌≡◌};
+
+    ghost from_gives = { λ l f. f ≡ of_log l };
+
+    fn from(fault: LogFault) -> AppendFault {
+        match fault {
+            LogFault::Failed => AppendFault::Failed,
+            LogFault::SegmentFull => AppendFault::SegmentFull,
+            LogFault::Memory => AppendFault::Memory,
+            LogFault::Write => AppendFault::Write,
+        }
+    }
+}
+
+impl From<AllocError> for AppendFault {
+    ghost use Rattle.std.specs.Prelude.{◌≡◌};
+    ghost use Rattle.head_live.specs.declared.fault.AppendFault.TheVariants.{Memory};
+
+    ghost from_gives = { λ _ f. f ≡ Memory };
+
+    fn from(_error: AllocError) -> AppendFault {
+        AppendFault::Memory
+    }
+}
+
+impl<T: Drop> From<AllocFailed<T>> for AppendFault {
+    ghost use Rattle.std.specs.Prelude.{◌≡◌};
+    ghost use Rattle.head_live.specs.declared.fault.AppendFault.TheVariants.{Memory};
+
+    ghost from_gives = { λ _ f. f ≡ Memory };
+
+    fn from(_error: AllocFailed<T>) -> AppendFault {
+        AppendFault::Memory
+    }
+}

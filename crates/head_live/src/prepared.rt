@@ -1,0 +1,124 @@
+//! Rows whose label sets were looked over.
+
+ghost use Rattle.std.specs.Prelude.{◌≡◌, All, IfErr, IfOk, IsOk, OnOk, Some, length, map};
+ghost use Rattle.wal_record.specs.Labels.{IsLabelSet, same_labels};
+ghost use Rattle.head_series.specs.Table.{with_series};
+ghost use Rattle.head_series.specs.Texts.{place};
+ghost use Rattle.head_live.specs.Rows.{IsRefusal, row_of};
+ghost use Rattle.head_live.specs.Refused.{IsRefusedAt, IsRefusedSet, labels_of};
+
+use crate::fault::PrepareFault;
+use crate::rows::RawRow;
+use head_series::SeriesTable;
+use std::alloc::Global;
+use std::marker::Model;
+use wal_record::{LabelFault, LabelSet};
+
+/// A row of a list whose label sets stand apart, each once: the number of its set there.
+#[derive(Clone, Copy, Debug)]
+pub(crate) struct PreparedRow {
+    pub(crate) set: usize,
+    pub(crate) time: i64,
+    pub(crate) value: i64,
+}
+
+/// Rows whose labels are label sets, ready to be appended. Contracts see them as a list of `Row`. Each label set is kept once, so
+/// that an append looks each up once.
+#[derive(Debug, Drop)]
+pub struct Prepared {
+    pub(crate) sets: Vec<LabelSet>,
+    pub(crate) rows: Vec<PreparedRow>,
+}
+
+impl Model for Prepared {
+    ghost use Rattle.std.specs.Prelude.{List, map};
+    ghost use Rattle.head_live.specs.Rows.{Row};
+    ghost use Rattle.head_live.specs.Sets.{ArePlaced, with_set};
+
+    ghost Value = { List Row };
+
+    ghost view = { λ p. map (with_set p.sets.items) p.rows.items };
+
+    ghost invariant = { λ p. ArePlaced p.sets.items p.rows.items };
+}
+
+// The label set of these pairs.
+fn label_set(alloc: Global, pairs: &[(Vec<u8>, Vec<u8>)]) -> Result<LabelSet, LabelFault>
+    ensures labels { IfOk result (λ labels. labels ≡ labels_of pairs.now) }
+    ensures ordered { IsOk result → IsLabelSet (labels_of pairs.now) }
+    ensures refused { IfErr result (IsRefusedSet (labels_of pairs.now)) }
+{
+    let mut labels = LabelSet::new(alloc);
+    for (name, value) in pairs {
+        labels.push(name, value)?;
+    }
+    Ok(labels)
+}
+
+// The label set of the row in this place.
+fn row_labels(alloc: Global, place: usize, raw: &RawRow) -> Result<LabelSet, PrepareFault>
+    ensures labels { IfOk result (λ labels. labels ≡ (row_of raw.now).labels) }
+    ensures ordered { IsOk result → IsLabelSet (row_of raw.now).labels }
+    ensures refused { IfErr result (IsRefusedAt place (row_of raw.now).labels) }
+{
+    match label_set(alloc, &raw.pairs) {
+        Ok(labels) => Ok(labels),
+        Err(LabelFault::Memory) => Err(PrepareFault::Memory),
+        Err(fault) => Err(PrepareFault::Labels { row: place, fault }),
+    }
+}
+
+// The number of a label set among these, where a new one goes behind the others.
+fn number_of(
+    numbers: &mut SeriesTable,
+    sets: &mut Vec<LabelSet>,
+    labels: LabelSet,
+) -> Result<usize, PrepareFault>
+    requires { numbers.old.series ≡ sets.old.items }
+    ensures numbers { OnOk result (numbers.new.series ≡ sets.new.items) }
+    ensures sets { OnOk result (sets.new.items ≡ with_series sets.old.items labels) }
+    ensures place { IfOk result (λ number. place (same_labels labels) sets.new.items ≡ Some number) }
+    ensures refused { IfErr result (λ fault. fault ≡ PrepareFault.Memory) }
+{
+    let Ok(bound) = numbers.bind(0, &labels) else {
+        return Err(PrepareFault::Memory);
+    };
+    if bound.created {
+        sets.push(labels)?;
+    }
+    Ok(bound.slot.index())
+}
+
+impl Prepared {
+    /// Prepares rows: the pairs of each are to be a label set, names ascending and none empty. It takes no lock and asks nothing of
+    /// a head.
+    pub fn new(alloc: Global, rows: &[RawRow]) -> Result<Prepared, PrepareFault>
+        ensures rows { IfOk result (λ prepared. prepared ≡ map row_of rows.now) }
+        ensures ordered { IsOk result → All (λ row. IsLabelSet (row_of row).labels) rows.now }
+        ensures refused { IfErr result (IsRefusal (map row_of rows.now)) }
+    {
+        let mut numbers = SeriesTable::new(alloc, u32::MAX);
+        let mut sets = Vec::new(alloc);
+        let mut prepared = Vec::with_capacity(alloc, rows.len())?;
+        for (row, raw) in rows.iter().enumerate() {
+            let labels = row_labels(alloc, row, raw)?;
+            let set = number_of(&mut numbers, &mut sets, labels)?;
+            prepared.push(PreparedRow {
+                set,
+                time: raw.time,
+                value: raw.value,
+            })?;
+        }
+        Ok(Prepared {
+            sets,
+            rows: prepared,
+        })
+    }
+
+    /// How many rows there are.
+    pub fn len(&self) -> usize
+        ensures { result ≡ length self.now }
+    {
+        self.rows.len()
+    }
+}

@@ -1,0 +1,58 @@
+//! The rows of a file.
+
+use head_live::RawRow;
+use prom_commands::{Fault, read_pair};
+use std::alloc::{AllocError, Global};
+use std::str;
+
+// The number that a word is: an optional minus and decimal digits.
+fn read_number(word: &str) -> Option<i64> {
+    let digits = word.strip_prefix('-').unwrap_or(word);
+    if digits.is_empty() || !digits.bytes().all(|byte| byte.is_ascii_digit()) {
+        return None;
+    }
+    word.parse().ok()
+}
+
+// The row that a line is: a time, a value and labels as they are printed, parted by one space.
+fn read_row(alloc: Global, line: &str) -> Result<Option<RawRow>, AllocError> {
+    let mut words = line.split(' ');
+    let Some(time) = words.next().and_then(read_number) else {
+        return Ok(None);
+    };
+    let Some(value) = words.next().and_then(read_number) else {
+        return Ok(None);
+    };
+    let mut pairs = Vec::new(alloc);
+    for word in words {
+        let Some(pair) = read_pair(alloc, word)? else {
+            return Ok(None);
+        };
+        pairs.push(pair)?;
+    }
+    Ok(Some(RawRow { pairs, time, value }))
+}
+
+// The row that the bytes of a line are.
+fn row_of(alloc: Global, line: &[u8]) -> Result<Option<RawRow>, AllocError> {
+    match str::from_utf8(line) {
+        Ok(line) => read_row(alloc, line),
+        Err(_) => Ok(None),
+    }
+}
+
+/// The rows of a file, a line each. The newline behind the last one may be missing.
+pub fn read_rows(alloc: Global, bytes: &[u8]) -> Result<Vec<RawRow>, Fault> {
+    let mut rows = Vec::new(alloc);
+    if bytes.is_empty() {
+        return Ok(rows);
+    }
+    let lines = bytes.strip_suffix(b"\n").unwrap_or(bytes);
+    for (line, bytes) in (1..).zip(lines.split(|byte| *byte == b'\n')) {
+        match row_of(alloc, bytes)? {
+            Some(row) => rows.push(row)?,
+            None => return Err(Fault::NotARow { line }),
+        }
+    }
+    Ok(rows)
+}
