@@ -2,6 +2,8 @@
 #![tactic(auto)]
 
 #[cfg(test)]
+mod append_runs;
+#[cfg(test)]
 mod block_bytes;
 #[cfg(test)]
 mod block_runs;

@@ -2,6 +2,7 @@
 
 use crate::shelf::Shelf;
 use block_commands::{BlockRequest, carry_out_block};
+use live_commands::{AppendRequest, carry_out_append};
 use prom_commands::{Answer, Request, Store, StoreFault, carry_out};
 use std::alloc::{AllocError, Global};
 use std::fmt::Debug;
@@ -11,6 +12,11 @@ use std::thread::Threads;
 pub const REPLAY: Request<'static> = Request::Replay { dir: "log" };
 
 pub const RECORDS: Request<'static> = Request::Records { dir: "log" };
+
+pub const SERIES: Request<'static> = Request::Series {
+    dir: "log",
+    pair: None,
+};
 
 /// A file's name and its bytes.
 pub type Named<'a> = (&'a str, &'a [u8]);
@@ -125,6 +131,18 @@ pub fn assert_block_run<R: Abort + Threads + Sync + AllocGlobal>(
     want: (u8, &str, &str),
 ) -> Result<(), AllocError> {
     let answer = carry_out_block(rt, rt.alloc(), shelf, request);
+    assert_answer(rt, case, &answer, want)
+}
+
+/// Appends rows, which is to leave this status, print this and say this.
+pub fn assert_append_run<R: Abort + AllocGlobal>(
+    rt: &R,
+    case: &str,
+    shelf: &mut Shelf,
+    request: AppendRequest<'_>,
+    want: (u8, &str, &str),
+) -> Result<(), AllocError> {
+    let answer = carry_out_append(rt.alloc(), shelf, request);
     assert_answer(rt, case, &answer, want)
 }
 

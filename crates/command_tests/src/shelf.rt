@@ -243,8 +243,13 @@ impl Store for Shelf {
 
     fn rename(&mut self, from: &str, to: &str) -> Result<(), StoreFault> {
         let mut contents = call(&self.contents)?;
-        if contents.find(from).is_none() || contents.find(to).is_some() {
+        if contents.find(from).is_none() {
             return Err(StoreFault::Refused);
+        }
+        if contents.find(to).is_some() {
+            contents.file(from)?;
+            contents.file(to)?;
+            contents.entries.retain(|entry| entry.path.as_str() != to);
         }
         for entry in contents.entries.iter_mut() {
             if let Some(rest) = rest_of(entry.path.as_str(), from) {

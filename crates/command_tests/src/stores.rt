@@ -67,7 +67,7 @@ fn make<S: Store>(
 }
 
 // Calls one after another, and what each gives.
-const CALLS: [(Call, Result<&str, StoreFault>); 20] = [
+const CALLS: [(Call, Result<&str, StoreFault>); 22] = [
     (Call::ReadDir(""), REFUSED),
     (Call::SyncDir(""), REFUSED),
     (Call::CreateDir(""), DONE),
@@ -78,6 +78,8 @@ const CALLS: [(Call, Result<&str, StoreFault>); 20] = [
     (Call::CreateNew("/1/a.tmp"), DONE),
     (Call::CreateNew("/1/a.tmp"), REFUSED),
     (Call::Rename("/1/a.tmp", "/1/a"), DONE),
+    (Call::CreateNew("/1/b"), DONE),
+    (Call::Rename("/1/b", "/1/a"), DONE),
     (Call::Rename("/1", "/2"), DONE),
     (Call::SyncDir("/1"), REFUSED),
     (Call::Read("/1/a"), REFUSED),

@@ -1,0 +1,50 @@
+//! Heads to open.
+
+use head_core::{Head, HeadFault};
+use hw_bytes::Items;
+use std::alloc::{AllocError, Global};
+use wal_record::{LabelFault, LabelSet, SampleEntry, SeriesEntry, WalRecord};
+
+/// A record of one entry.
+#[derive(Clone, Copy, Debug)]
+pub enum Entry {
+    /// This reference stands for the series of this value of the label a.
+    Series(u64, &'static [u8]),
+    /// A sample: its reference, time and value.
+    Sample(u64, i64, i64),
+}
+
+fn label_set(alloc: Global, value: &[u8]) -> Result<LabelSet, LabelFault> {
+    let mut labels = LabelSet::new(alloc);
+    labels.push(b"a", value)?;
+    Ok(labels)
+}
+
+fn record_of(alloc: Global, entry: Entry) -> Result<WalRecord, AllocError> {
+    match entry {
+        Entry::Series(reference, value) => {
+            let labels = label_set(alloc, value).map_err(|_| AllocError)?;
+            let mut entries = Vec::new(alloc);
+            entries.push(SeriesEntry { reference, labels })?;
+            Ok(WalRecord::Series(Items::from_vec(entries)))
+        }
+        Entry::Sample(reference, time, value) => {
+            let mut entries = Vec::new(alloc);
+            entries.push(SampleEntry {
+                reference,
+                time,
+                value,
+            })?;
+            Ok(WalRecord::Samples(Items::from_vec(entries)))
+        }
+    }
+}
+
+/// The head of a log of these records, if there is memory for it.
+pub fn head_of(alloc: Global, entries: &[Entry]) -> Result<Head, HeadFault> {
+    let mut head = Head::new(alloc);
+    for entry in entries {
+        head.apply(&record_of(alloc, *entry)?)?;
+    }
+    Ok(head)
+}
