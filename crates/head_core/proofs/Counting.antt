@@ -48,7 +48,7 @@ counts_at a b c d n = record {
 abbrev pub tally : List Entry → Fate → ℕ
 tally es f = count_by (is_fate f) (fates es)
 
-tally_more : (es : List Entry) (e : Entry) → tally (es ++ e ∷ []) ≡ (λ f. if is_fate f (fate_at es e) then tally es f + 1 else tally es f)
+pub tally_more : (es : List Entry) (e : Entry) → tally (es ++ e ∷ []) ≡ (λ f. if is_fate f (fate_at es e) then tally es f + 1 else tally es f)
 tally_more es e = fun_ext (λ f. ap (count_by (is_fate f)) (fates_more es e) ∙ count_step (is_fate f) (fates es) (fate_at es e))
 
 with_fate_is : (a b c d : ℕ) (n : Fate → ℕ) (f : Fate) → counts_at a b c d (λ g. if is_fate g f then n g + 1 else n g) ≡ with_fate f (counts_at a b c d n)

@@ -28,7 +28,7 @@ label_sets bs = map (λ b. b.labels) bs
 abbrev pub is_bound : List Binding → Labels → Bool
 is_bound bs l = list_any (same_labels l) (label_sets bs)
 
-is_bound-push : (bs : List Binding) (b : Binding) (l : Labels) → is_bound (bs ++ b ∷ []) l ≡ (is_bound bs l || (same_labels l b.labels || false))
+pub is_bound-push : (bs : List Binding) (b : Binding) (l : Labels) → is_bound (bs ++ b ∷ []) l ≡ (is_bound bs l || (same_labels l b.labels || false))
 is_bound-push bs b l = ap (list_any (same_labels l)) (map_push (λ (c : Binding). c.labels) bs b) ∙ list_any-append (same_labels l) (label_sets bs) (b.labels ∷ [])
 
 -- the series are the label sets that are bound
@@ -36,7 +36,7 @@ pub is_bound-series_of : (bs : List Binding) (l : Labels) → list_any (same_lab
 is_bound-series_of bs l = list_any-distinct same_labels labels_same.exact l (label_sets bs)
 
 -- an owner is bound
-owner_is_bound : (bs : List Binding) (r : ℕ) (l : Labels) → owner_of bs r ≡ Some l → is_bound bs l ≡ true
+pub owner_is_bound : (bs : List Binding) (r : ℕ) (l : Labels) → owner_of bs r ≡ Some l → is_bound bs l ≡ true
 owner_is_bound bs r l = by_push (λ cs. owner_of cs r ≡ Some l → is_bound cs l ≡ true) (λ h. cc) step bs where
   step : (cs : List Binding) (b : Binding) → (owner_of cs r ≡ Some l → is_bound cs l ≡ true) → owner_of (cs ++ b ∷ []) r ≡ Some l → is_bound (cs ++ b ∷ []) l ≡ true
   step cs b f h = is_bound-push cs b l ∙ at (b.reference == r) (sym (last_found-push (bound_by r) cs b) ∙ h) where

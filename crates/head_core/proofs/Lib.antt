@@ -8,7 +8,10 @@ pub mod Limits
 pub mod Taking
 pub mod Binding
 pub mod Whole
+pub mod Resolving
+pub mod Assembling
 pub mod OneContent
 pub mod RoomLemmas
+pub mod Slots
 pub mod CountRoom
 pub mod DraftLemmas

@@ -53,8 +53,11 @@ fates_front f es more =
     let k = ap (count_by (is_fate f)) (along-append (λ before e. fate_at before e ∷ []) es more) ∙ sum_by-append (λ g. cond (is_fate f g) 1 0) (fates es) (along (λ before e. fate_at (es ++ before) e ∷ []) more) in
     omega (arith, k)
 
--- the series that more entries bind are behind those that were bound
-series_split : (es more : List Entry) → series_of (bindings (es ++ more)) ≡ series_of (bindings es) ++ along (λ before. if_new same_labels (label_sets (bindings es) ++ before)) (label_sets (bindings more))
+-- the series that more entries bind, behind those that were bound
+abbrev pub later_series : List Entry → List Entry → List Labels
+later_series es more = along (λ before. if_new same_labels (label_sets (bindings es) ++ before)) (label_sets (bindings more))
+
+pub series_split : (es more : List Entry) → series_of (bindings (es ++ more)) ≡ series_of (bindings es) ++ later_series es more
 series_split es more =
     ap series_of (flat_map-append binding es more)
     ∙ ap (distinct same_labels) (map-append (λ (b : Binding). b.labels) (bindings es) (bindings more))
@@ -62,12 +65,12 @@ series_split es more =
 
 -- More entries take no series back.
 pub series_front : (es more : List Entry) → length (series_of (bindings es)) ≤ length (series_of (bindings (es ++ more)))
-series_front es more = longer_by (series_of (bindings es)) (along (λ before. if_new same_labels (label_sets (bindings es) ++ before)) (label_sets (bindings more))) (series_of (bindings (es ++ more))) (series_split es more)
+series_front es more = longer_by (series_of (bindings es)) (later_series es more) (series_of (bindings (es ++ more))) (series_split es more)
 
 -- More entries take no text back.
 pub texts_front : (es more : List Entry) → length (texts_by es) ≤ length (texts_by (es ++ more))
 texts_front es more =
-    let new : List Labels = along (λ before. if_new same_labels (label_sets (bindings es) ++ before)) (label_sets (bindings more)) in
+    let new : List Labels = later_series es more in
     subst (λ ts. length (texts_by es) ≤ length (distinct same_text ts))
     (sym (ap (flat_map texts_of) (series_split es more) ∙ flat_map-append texts_of (series_of (bindings es)) new))
     (distinct_front same_text (flat_map texts_of (series_of (bindings es))) (flat_map texts_of new))
@@ -109,7 +112,7 @@ full_past es t x h (absent, full) = by full where
   by (inr l) = inr (subst (λ ts. t.most < length ts) texts l)
 
 -- the count of a fate is how many entries have it
-count_at : (a b c d : ℕ) (n : Fate → ℕ) (f : Fate) → count_of_fate f (counts_at a b c d n) ≡ n f
+pub count_at : (a b c d : ℕ) (n : Fate → ℕ) (f : Fate) → count_of_fate f (counts_at a b c d n) ≡ n f
 count_at a b c d n bound = refl
 count_at a b c d n accepted = refl
 count_at a b c d n stale = refl
@@ -118,7 +121,7 @@ count_at a b c d n hides = refl
 count_at a b c d n empty_stone = refl
 count_at a b c d n unknown_stone = refl
 
-same_fate : (f : Fate) → is_fate f f ≡ true
+pub same_fate : (f : Fate) → is_fate f f ≡ true
 same_fate bound = refl
 same_fate accepted = refl
 same_fate stale = refl
@@ -128,7 +131,7 @@ same_fate empty_stone = refl
 same_fate unknown_stone = refl
 
 -- each count of entries has 64 bits
-fate_within : (c : Counts) → AreCountsWithin c → (f : Fate) → count_of_fate f c < 2 ^ 64
+pub fate_within : (c : Counts) → AreCountsWithin c → (f : Fate) → count_of_fate f c < 2 ^ 64
 fate_within c h bound = h.series_entries
 fate_within c h accepted = h.accepted
 fate_within c h stale = h.stale
@@ -138,42 +141,45 @@ fate_within c h empty_stone = h.empty_stones
 fate_within c h unknown_stone = h.unknown_stones
 
 -- each count of records has 64 bits
-class_within : (c : Counts) → AreCountsWithin c → (r : WalRecord) → count_of_class r c < 2 ^ 64
+pub class_within : (c : Counts) → AreCountsWithin c → (r : WalRecord) → count_of_class r c < 2 ^ 64
 class_within c h (Series es) = h.series_records
 class_within c h (Samples ss) = h.sample_records
 class_within c h (Stones ds) = h.stone_records
 class_within c h (Other kind) = h.skipped_records
+
+-- What a table shows is followed by an entry for which it has no room: no entries that begin so are within the limits.
+pub over_table : (es : List Entry) (t : Table) (e : Entry) (more fs : List Entry) → IsTableOf (bindings es) t → t.most ≡ 4294967295 → fs ≡ es ++ e ∷ more
+    → length (series_of (bindings fs)) ≤ 4294967295 → length (texts_by fs) ≤ 4294967295 → IsOverTable t e → ⊥
+over_table es t e more fs shown most are series_fit texts_fit o = by e refl o where
+  split : fs ≡ (es ++ e ∷ []) ++ more
+  split = are ∙ sym (append_assoc es (e ∷ []) more)
+
+  few_series : length (series_of (bindings (es ++ e ∷ []))) ≤ 4294967295
+  few_series =
+      let k = series_front (es ++ e ∷ []) more in
+      let j = subst (λ gs. length (series_of (bindings gs)) ≤ 4294967295) split series_fit in
+      omega (arith, k, j)
+
+  few_texts : length (texts_by (es ++ e ∷ [])) ≤ 4294967295
+  few_texts =
+      let k = texts_front (es ++ e ∷ []) more in
+      let j = subst (λ gs. length (texts_by gs) ≤ 4294967295) split texts_fit in
+      omega (arith, k, j)
+
+  past : (x : SeriesEntry) → e ≡ series x → (t.most < length (series_of (bindings (es ++ series x ∷ [])))) ⊎ (t.most < length (texts_by (es ++ series x ∷ []))) → ⊥
+  past x k (inl l) = let j = subst (λ f. length (series_of (bindings (es ++ f ∷ []))) ≤ 4294967295) k few_series in omega (arith, most, l, j)
+  past x k (inr l) = let j = subst (λ f. length (texts_by (es ++ f ∷ [])) ≤ 4294967295) k few_texts in omega (arith, most, l, j)
+
+  by : (f : Entry) → e ≡ f → IsOverTable t f → ⊥
+  by (series x) k full = past x k (full_past es t x shown full)
+  by (sample s) k p = p
+  by (stone s) k p = p
 
 -- What was read is followed by an entry that is over a limit: no records with these entries, and whatever is behind them, are within the limits.
 module _ (law : ColumnLaw) (a b c d : ℕ) {es : List Entry} {m : Content} (h : IsReadBy a b c d es m) (most : m.table.most ≡ 4294967295) (e : Entry) (more : List Entry) (rs : List WalRecord)
     (are : entries_of rs ≡ es ++ e ∷ more) (w : IsWithinLimits rs) where
   split : entries_of rs ≡ (es ++ e ∷ []) ++ more
   split = are ∙ sym (append_assoc es (e ∷ []) more)
-
-  -- the entry has no room in the table
-  over_table : IsOverTable m.table e → ⊥
-  over_table o = by e refl o where
-    few_series : length (series_of (bindings (es ++ e ∷ []))) ≤ 4294967295
-    few_series =
-        let k = series_front (es ++ e ∷ []) more in
-        let j = subst (λ fs. length (series_of (bindings fs)) ≤ 4294967295) split w.series in
-        omega (arith, k, j)
-
-    few_texts : length (texts_by (es ++ e ∷ [])) ≤ 4294967295
-    few_texts =
-        let k = texts_front (es ++ e ∷ []) more in
-        let j = subst (λ fs. length (texts_by fs) ≤ 4294967295) split w.texts in
-        omega (arith, k, j)
-
-    past : (x : SeriesEntry) → e ≡ series x
-        → (m.table.most < length (series_of (bindings (es ++ series x ∷ [])))) ⊎ (m.table.most < length (texts_by (es ++ series x ∷ []))) → ⊥
-    past x k (inl l) = let j = subst (λ f. length (series_of (bindings (es ++ f ∷ []))) ≤ 4294967295) k few_series in omega (arith, most, l, j)
-    past x k (inr l) = let j = subst (λ f. length (texts_by (es ++ f ∷ [])) ≤ 4294967295) k few_texts in omega (arith, most, l, j)
-
-    by : (f : Entry) → e ≡ f → IsOverTable m.table f → ⊥
-    by (series x) k full = past x k (full_past es m.table x h.entries.shown full)
-    by (sample s) k o = o
-    by (stone s) k o = o
 
   -- the entry's count has no room
   over_count : count_of_fate (told m.table m.histories e) m.counts ≡ 18446744073709551615 → ⊥
@@ -189,11 +195,11 @@ module _ (law : ColumnLaw) (a b c d : ℕ) {es : List Entry} {m : Content} (h : 
       omega (arith, n, one, front, all, few)
 
   pub over_read : IsOver m e → ⊥
-  over_read (inl o) = over_table o
+  over_read (inl o) = over_table es m.table e more (entries_of rs) h.entries.shown most are w.series w.texts o
   over_read (inr o) = over_count o
 
 -- the entries of records, with those of one more, of which some were read
-entries_split : (rs : List WalRecord) (r : WalRecord) (fs : List Entry) (e : Entry) (more : List Entry) → entries_in r ≡ fs ++ e ∷ more → entries_of (rs ++ r ∷ []) ≡ (entries_of rs ++ fs) ++ e ∷ more
+pub entries_split : (rs : List WalRecord) (r : WalRecord) (fs : List Entry) (e : Entry) (more : List Entry) → entries_in r ≡ fs ++ e ∷ more → entries_of (rs ++ r ∷ []) ≡ (entries_of rs ++ fs) ++ e ∷ more
 entries_split rs r fs e more k = entries_of-push rs r ∙ ap (λ gs. entries_of rs ++ gs) k ∙ sym (append_assoc (entries_of rs) fs (e ∷ more))
 
 module _ (law : ColumnLaw) {rs : List WalRecord} {c : Content} (h : IsContentOf rs c) (r : WalRecord) where
@@ -205,26 +211,29 @@ module _ (law : ColumnLaw) {rs : List WalRecord} {c : Content} (h : IsContentOf 
       (takes_read law (count_by is_series (rs ++ r ∷ [])) (count_by is_samples (rs ++ r ∷ [])) (count_by is_stones (rs ++ r ∷ [])) (count_by is_skipped (rs ++ r ∷ [])) fs (with_class law h r (entries_of rs) c (read_content rs c h)) t)
       most e more (rs ++ r ∷ []) (entries_split rs r fs e more k) w o
 
-module _ {rs : List WalRecord} {c : Content} (h : IsContentOf rs c) (r : WalRecord) where
-  -- The count of the record's class has no room: with the record, the content is past the limits.
-  pub over_class : count_of_class r c.counts ≡ 18446744073709551615 → IsWithinLimits (rs ++ r ∷ []) → ⊥
-  over_class o w =
-      let now = ap (count_of_class r) h.counted ∙ any_entries r (tally (entries_of rs)) in
-      let next = ap (count_of_class r) (record_more rs r (tally (entries_of (rs ++ r ∷ [])))) ∙ raised r (counts_by rs (tally (entries_of (rs ++ r ∷ [])))) in
-      let few = class_within (counts_of (rs ++ r ∷ [])) w.counts r in
-      omega (arith, o, now, next, few)
-    where
-      any_entries : (q : WalRecord) (n : Fate → ℕ) → count_of_class q (counts_by rs n) ≡ count_of_class q (counts_by rs (tally (entries_of (rs ++ r ∷ []))))
-      any_entries (Series es) n = refl
-      any_entries (Samples ss) n = refl
-      any_entries (Stones ds) n = refl
-      any_entries (Other kind) n = refl
+-- The count of a record's class has no room: with the record it has more than 64 bits, whatever the entries count.
+pub class_past : (rs : List WalRecord) (r : WalRecord) (n k : Fate → ℕ) → count_of_class r (counts_by rs n) ≡ 18446744073709551615 → count_of_class r (counts_by (rs ++ r ∷ []) k) < 2 ^ 64 → ⊥
+class_past rs r n k o few =
+    let now = any_entries r in
+    let next = ap (count_of_class r) (record_more rs r k) ∙ raised r (counts_by rs k) in
+    omega (arith, o, now, next, few)
+  where
+    any_entries : (q : WalRecord) → count_of_class q (counts_by rs n) ≡ count_of_class q (counts_by rs k)
+    any_entries (Series es) = refl
+    any_entries (Samples ss) = refl
+    any_entries (Stones ds) = refl
+    any_entries (Other kind) = refl
 
-      raised : (q : WalRecord) (n : Counts) → count_of_class q (with_record q n) ≡ count_of_class q n + 1
-      raised (Series es) n = refl
-      raised (Samples ss) n = refl
-      raised (Stones ds) n = refl
-      raised (Other kind) n = refl
+    raised : (q : WalRecord) (c : Counts) → count_of_class q (with_record q c) ≡ count_of_class q c + 1
+    raised (Series es) c = refl
+    raised (Samples ss) c = refl
+    raised (Stones ds) c = refl
+    raised (Other kind) c = refl
+
+-- The same of what the records say.
+pub over_class : {rs : List WalRecord} {c : Content} → IsContentOf rs c → (r : WalRecord) → count_of_class r c.counts ≡ 18446744073709551615 → IsWithinLimits (rs ++ r ∷ []) → ⊥
+over_class {rs} {c} h r o w =
+    class_past rs r (tally (entries_of rs)) (tally (entries_of (rs ++ r ∷ []))) (sym (ap (count_of_class r) h.counted) ∙ o) (class_within (counts_of (rs ++ r ∷ [])) w.counts r)
 
 -- A content that the head can show is within the limits.
 pub within_limits : (rs : List WalRecord) (c : Content) → IsContentOf rs c → length c.table.series ≤ 4294967295 → length c.table.texts ≤ 4294967295 → AreCountsWithin c.counts → IsWithinLimits rs

@@ -60,7 +60,7 @@ module _ {A : Type 0} (same : A → A → Bool) (law : IsSame same) where
   same_sym : (a b : A) → same a b ≡ true → same b a ≡ true
   same_sym a b h = subst (λ c. same c a ≡ true) (law.exact a b h) (law.reflexive a)
 
-  same_sym_false : (a b : A) → same a b ≡ false → same b a ≡ false
+  pub same_sym_false : (a b : A) → same a b ≡ false → same b a ≡ false
   same_sym_false a b h = by (same b a) refl where
     by : (y : Bool) → same b a ≡ y → y ≡ false
     by true e = let k : same a b ≡ true = same_sym b a e in cc
@@ -87,7 +87,7 @@ module _ {A : Type 0} (same : A → A → Bool) (law : IsSame same) where
     step : (ys : List A) (y : A) → AreApart (distinct same ys) → AreApart (distinct same (ys ++ y ∷ []))
     step ys y d = subst AreApart (sym (along-push (if_new same) ys y)) (by ys y (list_any (same y) ys) refl d)
 
-  not_at : (x l : A) (xs : List A) (s : ℕ) → list_any (same x) xs ≡ false → slice_get xs s ≡ Some l → same x l ≡ false
+  pub not_at : (x l : A) (xs : List A) (s : ℕ) → list_any (same x) xs ≡ false → slice_get xs s ≡ Some l → same x l ≡ false
   not_at x l [] s h e = cc
   not_at x l (y ∷ ys) zero h e = subst (λ z. same x z ≡ false) (let k : y ≡ l = cc in k) (or_first (same x y) (list_any (same x) ys) h)
   not_at x l (y ∷ ys) (suc s) h e = not_at x l ys s (or_second (same x y) (list_any (same x) ys) h) e

@@ -25,10 +25,13 @@ history_at c slot = unwrap_or (slice_get c.histories slot) no_history
 abbrev pub AreSlots : Content → List ℕ → Type 0
 AreSlots c slots = All (λ s. s < length c.table.series) slots
 
--- each series has a history, each slot of the postings a series, and the table has the limits of a head
-pub record IsWhole (table : Table) (columns : ℕ) (postings : Lists) : Type 0 where
-  pub one_each : columns ≡ length table.series
-  pub below : AreBelow (length table.series) postings.all
+-- the table has the limits of a head, and is within them
+pub record IsBounded (table : Table) : Type 0 where
   pub limit : table.most ≡ series_limit
   pub few : length table.series ≤ series_limit
   pub few_texts : length table.texts ≤ series_limit
+
+-- each series has a history, and each slot of the postings a series
+pub record IsWhole (table : Table) (columns : ℕ) (postings : Lists) : Type 0 where
+  pub one_each : columns ≡ length table.series
+  pub below : AreBelow (length table.series) postings.all

@@ -2,6 +2,8 @@ pub mod Owners
 pub mod Counts
 pub mod Content
 pub mod Steps
+pub mod Resolved
+pub mod Resolving
 pub mod Heads
 pub mod Room
 pub mod Draft

@@ -50,6 +50,11 @@ histories_after t hs (series e) = if has_series t.series e.labels then hs else h
 histories_after t hs (sample s) = put_item (slot_at t s.reference) (found t hs s.reference) (sample_item s) hs
 histories_after t hs (stone d) = put_item (slot_at t d.reference) (found t hs d.reference) (stone_item d) hs
 
+-- the later of two times, if there are any
+abbrev pub later_option : Option ℤ → Option ℤ → Option ℤ
+later_option m None = m
+later_option m (Some t) = later m t
+
 -- the greatest time once this became of an item
 abbrev pub max_item : Fate → Item → Option ℤ → Option ℤ
 max_item accepted (item.Sample s) m = later m s.time

@@ -2,7 +2,7 @@
 //!
 //! A head keeps the series of a log, the references that name them, of each series its accepted samples and its hidden runs, and
 //! the series of each label. `replay_serial` reads a whole log into one. What becomes of an entry depends on the entries before
-//! it alone.
+//! it alone. Where the columns are built elsewhere, a `Resolver` tells whose each item is, and `Head::assemble` puts the head together.
 #![tactic(auto)]
 
 mod counts;
@@ -12,12 +12,14 @@ mod head;
 mod laws;
 mod replay;
 mod reserved;
+mod resolver;
 
 pub use counts::Counts;
 pub use fault::HeadFault;
 pub use head::Head;
-pub use head_column::{Chunk, Hour, Run, Sample};
+pub use head_column::{Chunk, Column, Hour, Item, Outcome, Run, Sample};
 pub use head_series::Slot;
-pub use laws::one_content;
+pub use laws::{one_content, slots_stay};
 pub use replay::{ReplayFault, Replayed, replay_serial};
 pub use reserved::Reserved;
+pub use resolver::Resolver;

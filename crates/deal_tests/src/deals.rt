@@ -1,0 +1,379 @@
+//! Items dealt to workers, for both builders that there are.
+
+use crate::same;
+use head_column::{Column, Item, Outcome, Run, Sample, Tally};
+use head_deal::{Builder, Deal, DealFault, JoinFault, Joined, Part, Stepped, join_parts, run_part};
+use std::alloc::{AllocError, Global};
+use std::process::Abort;
+
+// A builder of a series, to which nothing came yet.
+trait Fresh: Builder<Item = Item, Outcome = Outcome> {
+    fn fresh(alloc: Global) -> Self;
+}
+
+impl Fresh for Tally {
+    fn fresh(_alloc: Global) -> Tally {
+        Tally::new()
+    }
+}
+
+impl Fresh for Column {
+    fn fresh(alloc: Global) -> Column {
+        Column::new(alloc)
+    }
+}
+
+// Five items for three series, with the slot of each.
+const FIVE: &[(u32, Item)] = &[
+    (0, Item::Sample(kept!(10, 1))),
+    (1, Item::Sample(kept!(5, 2))),
+    (0, Item::Sample(kept!(10, 3))),
+    (2, Item::Stone(run!(4, 3))),
+    (1, Item::Stone(run!(1, 2))),
+];
+
+// What becomes of each, in the order of dealing.
+const FIVE_OUTCOMES: &[Outcome] = &[
+    Outcome::Accepted,
+    Outcome::Accepted,
+    Outcome::Stale,
+    Outcome::EmptyStone,
+    Outcome::Hidden,
+];
+
+// A deal of these items to three slots, or to more.
+fn dealt<B: Fresh>(
+    alloc: Global,
+    tag: u64,
+    workers: usize,
+    slots: usize,
+) -> Result<Deal<B>, AllocError> {
+    let mut builders = Vec::new(alloc);
+    for _slot in 0..slots {
+        builders.push(B::fresh(alloc))?;
+    }
+    let mut deal = Deal::new(alloc, tag, workers, builders).map_err(|_| AllocError)?;
+    for (slot, item) in FIVE {
+        if deal.is_full() || deal.slots() <= *slot as usize {
+            return Err(AllocError);
+        }
+        deal.deal(*slot, *item).map_err(|_| AllocError)?;
+    }
+    Ok(deal)
+}
+
+// What the steps of these workers tell, one after another.
+fn steps<B: Fresh>(
+    alloc: Global,
+    deal: &mut Deal<B>,
+    workers: &[usize],
+) -> Result<Vec<Stepped<Outcome>>, AllocError> {
+    let mut told = Vec::new(alloc);
+    for worker in workers {
+        if deal.workers() <= *worker {
+            return Err(AllocError);
+        }
+        told.push(deal.step(*worker)?)?;
+    }
+    Ok(told)
+}
+
+fn joined<B: Fresh>(alloc: Global, deal: Deal<B>) -> Result<Joined<B>, AllocError> {
+    let parts = deal.into_parts().map_err(|_| AllocError)?;
+    join_parts(alloc, parts).map_err(|_| AllocError)
+}
+
+// Two workers, in an order of steps: what each step tells, and what all of them end in.
+fn check_steps<B: Fresh>(
+    rt: &impl Abort,
+    alloc: Global,
+    workers: &[usize],
+    told: &[Stepped<Outcome>],
+) -> Result<(), AllocError> {
+    let mut deal: Deal<B> = dealt(alloc, 1, 2, 3)?;
+    let found = steps(alloc, &mut deal, workers)?;
+    same(rt, workers, found.as_slice(), told);
+    let ended = joined(alloc, deal)?;
+    same(rt, workers, ended.outcomes.as_slice(), FIVE_OUTCOMES);
+    Ok(())
+}
+
+// The first worker has the slots 0 and 2, the second the slot 1. A seventh step finds nothing.
+const ORDERS: &[(&[usize], &[Stepped<Outcome>])] = &[
+    (
+        &[1, 0, 1, 0, 0, 1, 0],
+        &[
+            Stepped::Done(Outcome::Accepted),
+            Stepped::Done(Outcome::Accepted),
+            Stepped::Done(Outcome::Hidden),
+            Stepped::Done(Outcome::Stale),
+            Stepped::Done(Outcome::EmptyStone),
+            Stepped::Empty,
+            Stepped::Empty,
+        ],
+    ),
+    (
+        &[0, 0, 0, 0, 1, 1, 1],
+        &[
+            Stepped::Done(Outcome::Accepted),
+            Stepped::Done(Outcome::Stale),
+            Stepped::Done(Outcome::EmptyStone),
+            Stepped::Empty,
+            Stepped::Done(Outcome::Accepted),
+            Stepped::Done(Outcome::Hidden),
+            Stepped::Empty,
+        ],
+    ),
+];
+
+#[test]
+fn deal_of_tallies(rt: HostRuntime) -> Result<(), AllocError> {
+    for (workers, told) in ORDERS {
+        check_steps::<Tally>(&rt, rt.alloc(), workers, told)?;
+        check_steps::<Column>(&rt, rt.alloc(), workers, told)?;
+    }
+    Ok(())
+}
+
+// The parts, each run to its end: the first one first, or the last one first, and given back in that order.
+fn parts_run<B: Fresh>(
+    alloc: Global,
+    workers: usize,
+    falls: bool,
+) -> Result<Vec<Part<B>>, AllocError> {
+    let deal: Deal<B> = dealt(alloc, 7, workers, 3)?;
+    let mut parts = deal.into_parts().map_err(|_| AllocError)?;
+    if falls {
+        parts.reverse();
+    }
+    for part in &mut parts {
+        run_part(part)?;
+    }
+    Ok(parts)
+}
+
+fn check_parts<B: Fresh>(
+    rt: &impl Abort,
+    alloc: Global,
+    workers: usize,
+    falls: bool,
+) -> Result<Vec<B>, AllocError> {
+    let parts: Vec<Part<B>> = parts_run(alloc, workers, falls)?;
+    let ended = join_parts(alloc, parts).map_err(|_| AllocError)?;
+    same(
+        rt,
+        (workers, falls),
+        ended.outcomes.as_slice(),
+        FIVE_OUTCOMES,
+    );
+    Ok(ended.builders)
+}
+
+// What the three columns keep.
+const FIVE_KEPT: &[(&[Sample], &[Run])] = &[
+    (&[kept!(10, 1)], &[]),
+    (&[kept!(5, 2)], &[run!(1, 2)]),
+    (&[], &[]),
+];
+
+fn check_columns(rt: &impl Abort, workers: usize, columns: &[Column]) -> Result<(), AllocError> {
+    same(rt, workers, columns.len(), FIVE_KEPT.len());
+    for (column, (samples, hidden)) in columns.iter().zip(FIVE_KEPT) {
+        same(rt, workers, column.samples()?.as_slice(), *samples);
+        same(rt, workers, column.hidden(), *hidden);
+    }
+    Ok(())
+}
+
+#[test]
+fn parts_in_any_order(rt: HostRuntime) -> Result<(), AllocError> {
+    for workers in [1, 2, 7, 64] {
+        for falls in [false, true] {
+            let tallies: Vec<Tally> = check_parts(&rt, rt.alloc(), workers, falls)?;
+            same(&rt, workers, tallies.len(), 3);
+            let columns: Vec<Column> = check_parts(&rt, rt.alloc(), workers, falls)?;
+            check_columns(&rt, workers, &columns)?;
+        }
+    }
+    Ok(())
+}
+
+fn check_worker_count(
+    rt: &impl Abort,
+    alloc: Global,
+    workers: usize,
+    fault: DealFault,
+) -> Result<(), AllocError> {
+    let mut builders = Vec::new(alloc);
+    builders.push(Tally::new())?;
+    match Deal::new(alloc, 1, workers, builders) {
+        Ok(_) => same(rt, workers, None, Some(fault)),
+        Err(refused) => {
+            same(rt, workers, refused.fault, fault);
+            same(rt, workers, refused.builders.len(), 1);
+        }
+    }
+    Ok(())
+}
+
+#[test]
+fn counts_of_workers(rt: HostRuntime) -> Result<(), AllocError> {
+    check_worker_count(&rt, rt.alloc(), 0, DealFault::NoWorkers)?;
+    check_worker_count(&rt, rt.alloc(), 65, DealFault::TooManyWorkers)?;
+    check_worker_count(&rt, rt.alloc(), usize::MAX, DealFault::TooManyWorkers)
+}
+
+// A part of a deal of the five items.
+#[derive(Clone, Copy, Debug)]
+struct Made {
+    tag: u64,
+    workers: usize,
+    slots: usize,
+    worker: usize,
+    runs: bool,
+}
+
+fn make_part(alloc: Global, made: Made) -> Result<Part<Tally>, AllocError> {
+    let deal: Deal<Tally> = dealt(alloc, made.tag, made.workers, made.slots)?;
+    for mut part in deal.into_parts().map_err(|_| AllocError)? {
+        if part.worker() == made.worker {
+            if made.runs {
+                run_part(&mut part)?;
+            }
+            return Ok(part);
+        }
+    }
+    Err(AllocError)
+}
+
+const FIRST: Made = Made {
+    tag: 1,
+    workers: 2,
+    slots: 3,
+    worker: 0,
+    runs: true,
+};
+
+const SECOND: Made = Made { worker: 1, ..FIRST };
+
+// Parts that are not joined, and why. What is wrong is found in the order of the lines.
+const NOT_JOINED: &[(&[Made], JoinFault)] = &[
+    (
+        &[FIRST, FIRST, Made { tag: 2, ..SECOND }],
+        JoinFault::Stranger,
+    ),
+    (
+        &[
+            FIRST,
+            Made {
+                workers: 3,
+                ..SECOND
+            },
+        ],
+        JoinFault::Stranger,
+    ),
+    (&[FIRST, Made { slots: 4, ..SECOND }], JoinFault::Stranger),
+    (
+        &[
+            FIRST,
+            Made {
+                runs: false,
+                ..FIRST
+            },
+        ],
+        JoinFault::Doubled,
+    ),
+    (&[SECOND, FIRST, SECOND], JoinFault::Doubled),
+    (&[], JoinFault::Missing),
+    (
+        &[Made {
+            runs: false,
+            ..FIRST
+        }],
+        JoinFault::Missing,
+    ),
+    (&[SECOND], JoinFault::Missing),
+    (
+        &[
+            FIRST,
+            Made {
+                runs: false,
+                ..SECOND
+            },
+        ],
+        JoinFault::Unfinished,
+    ),
+    (
+        &[
+            SECOND,
+            Made {
+                runs: false,
+                ..FIRST
+            },
+        ],
+        JoinFault::Unfinished,
+    ),
+];
+
+fn check_not_joined(
+    rt: &impl Abort,
+    alloc: Global,
+    list: &[Made],
+    fault: JoinFault,
+) -> Result<(), AllocError> {
+    let mut parts = Vec::new(alloc);
+    for of in list {
+        parts.push(make_part(alloc, *of)?)?;
+    }
+    match join_parts(alloc, parts) {
+        Ok(_) => same(rt, list, None, Some(fault)),
+        Err(refused) => {
+            same(rt, list, refused.fault, fault);
+            same(rt, list, refused.parts.len(), list.len());
+        }
+    }
+    Ok(())
+}
+
+#[test]
+fn parts_that_are_not_joined(rt: HostRuntime) -> Result<(), AllocError> {
+    for (list, fault) in NOT_JOINED {
+        check_not_joined(&rt, rt.alloc(), list, *fault)?;
+    }
+    Ok(())
+}
+
+// Each call once, for two workers. Whatever memory is refused, what comes of it is right or nothing.
+fn deal_or_nothing<B: Fresh>(rt: &impl Abort, alloc: Global) -> Result<(), AllocError> {
+    let mut deal: Deal<B> = dealt(alloc, 1, 2, 3)?;
+    let first = steps(alloc, &mut deal, &[1])?;
+    same(
+        rt,
+        "a step",
+        first.as_slice(),
+        &[Stepped::Done(Outcome::Accepted)],
+    );
+    let mut parts = deal.into_parts().map_err(|_| AllocError)?;
+    for part in &mut parts {
+        // what memory was refused to is left, and is done now
+        if run_part(part).is_err() {
+            run_part(part)?;
+        }
+    }
+    let ended = match join_parts(alloc, parts) {
+        Ok(ended) => ended,
+        Err(refused) => {
+            same(rt, "why", refused.fault, JoinFault::Memory);
+            join_parts(alloc, refused.parts).map_err(|_| AllocError)?
+        }
+    };
+    same(rt, "outcomes", ended.outcomes.as_slice(), FIVE_OUTCOMES);
+    Ok(())
+}
+
+// To be run too with each allocation refused in turn.
+#[test]
+fn each_allocation(rt: HostRuntime) {
+    let _ = deal_or_nothing::<Tally>(&rt, rt.alloc());
+    let _ = deal_or_nothing::<Column>(&rt, rt.alloc());
+}

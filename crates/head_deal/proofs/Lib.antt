@@ -1,0 +1,16 @@
+pub mod Applying
+pub mod Theory
+pub mod Steps
+pub mod Places
+pub mod Running
+pub mod Entries
+pub mod Spreading
+pub mod Building
+pub mod Scatter
+pub mod Joins
+pub mod Runs
+pub mod Seating
+pub mod Alone
+pub mod Shares
+pub mod Holding
+pub mod Stepping

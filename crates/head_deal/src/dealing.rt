@@ -1,0 +1,292 @@
+//! Items dealt to the slots of workers.
+
+ghost use Rattle.std.specs.Prelude.{◌≡◌, ℕ, ◌==◌, All, filter, min, ◌+◌, ◌*◌, ◌/◌, ◌^◌, ◌++◌, ◌∷◌, [], ◌<◌, ◌≤◌, ◌↔◌, length, map, List, Ok, None, IsOk, IsTrue, IfOk, OnOk, OnErr, IfErr, IsErrAnd, slice_get, Some, true, ◌%◌, ◌≢◌, slice_index_or, vec_capacity};
+ghost use Rattle.head_deal.specs.Jobs.{Job, Queued, is_queued};
+ghost use Rattle.head_deal.specs.Dealing.{AllDone, AreShares, Course, Leads, RefusesDeal, SameEndings, Step, course, end_jobs, end_slots, ending_outcomes, ending_values, front};
+ghost use Rattle.head_deal.specs.Endings.{item_at, job_endings, outcomes, slot_endings, told};
+ghost use Rattle.head_deal.specs.Holding.{AreSeats};
+ghost use Rattle.head_deal.specs.Joining.{IsDeal, IsPartOf};
+ghost use Rattle.head_deal.specs.declared.Stepped.TheVariants.{Empty};
+
+use crate::parts::{Part, build_parts, count_in, lone_part};
+use crate::seats::{Seat, make_seats};
+use crate::spread::{make_rows, seat_all};
+use crate::{Builder, Stepped};
+use std::alloc::{AllocError, Global};
+use std::marker::Model;
+
+/// Why no deal was made.
+#[derive(Debug, Clone, Copy, PartialEq, Eq)]
+pub enum DealFault {
+    /// A deal has at least one worker.
+    NoWorkers,
+    /// A deal has at most 64 workers.
+    TooManyWorkers,
+    /// There was not enough memory.
+    Memory,
+}
+
+/// A deal that was not made, with the builders handed back.
+#[derive(Drop)]
+pub struct DealRefused<B> {
+    pub builders: Vec<B>,
+    pub fault: DealFault,
+}
+
+/// Items dealt to builders, each to the slot of its own. Slot s belongs to worker s mod workers, and each worker has the items of
+/// its slots, in the order in which they were dealt.
+///
+/// Items are either applied here, by `step`, or the deal is taken apart by `into_parts`, so that each worker runs its part alone.
+/// Either way each slot and each item ends alike.
+#[derive(Drop)]
+pub struct Deal<B: Builder> {
+    tag: u64,
+    workers: usize,
+    slots: usize,
+    count: usize,
+    seats: Vec<Seat>,
+    parts: Vec<Part<B>>,
+}
+
+impl<B: Builder> Model for Deal<B> {
+    ghost use Rattle.std.specs.Prelude.{◌≡◌, ◌^◌, length, min};
+    ghost use Rattle.head_deal.specs.Dealing.{Dealing};
+    ghost use Rattle.head_deal.specs.Holding.{AreSeats, Holds, held};
+
+    ghost Value = { Dealing B B.Item B.Outcome };
+
+    ghost view = { λ d. held d.tag d.workers d.slots d.count d.parts.items };
+
+    ghost invariant = { λ d. Holds (held d.tag d.workers d.slots d.count d.parts.items) d.slots d.count d.parts.items × AreSeats d.workers d.seats.items × (length d.seats.items ≡ min d.slots (2 ^ 32)) };
+}
+
+impl<B: Builder> Deal<B> {
+    /// A deal of no items to these builders. Slot s belongs to worker s mod `workers`, of which there are 1 to 64. The tag tells
+    /// the parts of this deal from those of others. Where it is refused the builders are handed back.
+    pub fn new(
+        alloc: Global,
+        tag: u64,
+        workers: usize,
+        builders: Vec<B>,
+    ) -> Result<Deal<B>, DealRefused<B>>
+        ensures deal { IfOk result (λ d. d ≡ record { tag = tag; workers = workers; builders = builders.items; jobs = [] }) }
+        ensures within { OnOk result ((0 < workers) × (workers ≤ 64)) }
+        ensures none { workers ≡ 0 → IsErrAnd result (λ e. e.fault ≡ DealFault.NoWorkers) }
+        ensures many { 64 < workers → IsErrAnd result (λ e. e.fault ≡ DealFault.TooManyWorkers) }
+        ensures refused { IfErr result (λ e. RefusesDeal workers e.fault) }
+        ensures handed_back { IfErr result (λ e. e.builders.items ≡ builders.items) }
+    {
+        if workers == 0 {
+            return Err(DealRefused {
+                builders,
+                fault: DealFault::NoWorkers,
+            });
+        }
+        if workers > 64 {
+            return Err(DealRefused {
+                builders,
+                fault: DealFault::TooManyWorkers,
+            });
+        }
+        if workers == 1 {
+            return Deal::deal_alone(alloc, tag, builders);
+        }
+        Deal::deal_to(alloc, tag, workers, builders)
+    }
+
+    // A deal of one worker, whose builders are all of them, where they are.
+    fn deal_alone(alloc: Global, tag: u64, builders: Vec<B>) -> Result<Deal<B>, DealRefused<B>>
+        ensures deal { IfOk result (λ d. d ≡ record { tag = tag; workers = 1; builders = builders.items; jobs = [] }) }
+        ensures memory { IfErr result (λ e. e.fault ≡ DealFault.Memory) }
+        ensures handed_back { IfErr result (λ e. e.builders.items ≡ builders.items) }
+    {
+        let slots = builders.len();
+        match prepare_alone(alloc, slots) {
+            Ok((seats, mut parts)) => {
+                parts.push_reserved(lone_part(alloc, tag, builders));
+                Ok(Deal {
+                    tag,
+                    workers: 1,
+                    slots,
+                    count: 0,
+                    seats,
+                    parts,
+                })
+            }
+            Err(_) => Err(DealRefused {
+                builders,
+                fault: DealFault::Memory,
+            }),
+        }
+    }
+
+    fn deal_to(
+        alloc: Global,
+        tag: u64,
+        workers: usize,
+        builders: Vec<B>,
+    ) -> Result<Deal<B>, DealRefused<B>>
+        requires some { 0 < workers }
+        requires most { workers ≤ 64 }
+        ensures deal { IfOk result (λ d. d ≡ record { tag = tag; workers = workers; builders = builders.items; jobs = [] }) }
+        ensures memory { IfErr result (λ e. e.fault ≡ DealFault.Memory) }
+        ensures handed_back { IfErr result (λ e. e.builders.items ≡ builders.items) }
+    {
+        let slots = builders.len();
+        match prepare(alloc, workers, slots) {
+            Ok((seats, mut rows, mut parts)) => {
+                seat_all(&mut rows, builders, workers);
+                build_parts(alloc, &mut parts, &mut rows, tag, workers, slots);
+                Ok(Deal {
+                    tag,
+                    workers,
+                    slots,
+                    count: 0,
+                    seats,
+                    parts,
+                })
+            }
+            Err(_) => Err(DealRefused {
+                builders,
+                fault: DealFault::Memory,
+            }),
+        }
+    }
+
+    /// How many slots there are: a builder each.
+    pub fn slots(&self) -> usize
+        ensures { result ≡ length self.now.builders }
+    {
+        self.slots
+    }
+
+    /// How many workers there are.
+    pub fn workers(&self) -> usize
+        ensures { result ≡ self.now.workers }
+    {
+        self.workers
+    }
+
+    /// Whether 2^32 items were dealt. Such a deal takes no more: whoever has more items begins a new deal.
+    pub fn is_full(&self) -> bool
+        ensures { IsTrue result ↔ (2 ^ 32 ≤ length self.now.jobs) }
+    {
+        self.count >= 4_294_967_296
+    }
+
+    /// Deals the item to the slot, behind all that were dealt before. The item is handed back where memory ran out, and nothing
+    /// else is changed.
+    pub fn deal(&mut self, slot: u32, item: B::Item) -> Result<(), B::Item>
+        requires exists { slot < length self.old.builders }
+        requires numbered { length self.old.jobs < 2 ^ 32 }
+        ensures dealt { OnOk result (self.new ≡ record self.old { jobs = self.old.jobs ++ record { number = length self.old.jobs; slot = slot; state = Queued item } ∷ [] }) }
+        ensures slots { OnOk result (end_slots B.after (course B.value self.new) ≡ map (item_at B.after slot item) (end_slots B.after (course B.value self.old))) }
+        ensures items { OnOk result (end_jobs B.after B.outcome (course B.value self.new) ≡ end_jobs B.after B.outcome (course B.value self.old) ++ told B.outcome (end_slots B.after (course B.value self.old)) (record { number = length self.old.jobs; slot = slot; state = Queued item }) ∷ []) }
+        ensures handed_back { IfErr result (λ i. i ≡ item) }
+        ensures refused { OnErr result (self.new ≡ self.old) }
+    {
+        self.deal_at(slot, item)
+    }
+
+    fn deal_at(&mut self, slot: u32, item: B::Item) -> Result<(), B::Item>
+        requires exists { slot < length self.old.builders }
+        requires numbered { length self.old.jobs < 2 ^ 32 }
+        ensures dealt { OnOk result (self.new ≡ record self.old { jobs = self.old.jobs ++ record { number = length self.old.jobs; slot = slot; state = Queued item } ∷ [] }) }
+        ensures handed_back { IfErr result (λ i. i ≡ item) }
+        ensures refused { OnErr result (self.new ≡ self.old) }
+    {
+        let seat = self.seats[slot as usize];
+        let number = self.count as u32;
+        match self.parts[seat.worker as usize].take(number, seat.element, item) {
+            Ok(()) => {
+                self.count += 1;
+                Ok(())
+            }
+            Err(item) => Err(item),
+        }
+    }
+
+    /// Applies the first item that is left of the worker's to its slot, and says what became of it. Where memory ran out nothing
+    /// that a builder shows is changed.
+    pub fn step(&mut self, worker: usize) -> Result<Stepped<B::Outcome>, AllocError>
+        requires { worker < self.old.workers }
+        ensures step { IfOk result (λ s. Step B.after B.outcome worker (course B.value self.old) s (course B.value self.new)) }
+        ensures empty { front worker (course B.value self.old) ≡ None → (result ≡ Ok Empty) × (self.new ≡ self.old) }
+        ensures endings { SameEndings B.after B.outcome (course B.value self.old) (course B.value self.new) }
+        ensures refused { OnErr result (course B.value self.new ≡ course B.value self.old) }
+        ensures tag { self.new.tag ≡ self.old.tag }
+        ensures same { (self.new.workers ≡ self.old.workers) × (length self.new.builders ≡ length self.old.builders) }
+    {
+        self.parts[worker].step()
+    }
+
+    /// The part of each worker, in order. It takes no memory and always succeeds.
+    pub fn into_parts(self) -> Result<Vec<Part<B>>, (Deal<B>, AllocError)>
+        ensures ok { IsOk result }
+        ensures parts { IfOk result (λ parts. AreShares self parts.items) }
+        ensures of_deal { IfOk result (λ parts. IsDeal self × All (IsPartOf B.value B.after B.outcome self) parts.items) }
+        ensures handed_back { IfErr result (λ e. e.0 ≡ self) }
+    {
+        let Deal {
+            tag: _,
+            workers: _,
+            slots: _,
+            count,
+            seats: _,
+            mut parts,
+        } = self;
+        count_in(&mut parts, count);
+        Ok(parts)
+    }
+}
+
+// The seats of the slots that a `u32` can name, and room for one part.
+fn prepare_alone<B: Builder>(
+    alloc: Global,
+    slots: usize,
+) -> Result<(Vec<Seat>, Vec<Part<B>>), AllocError>
+    ensures seats { IfOk result (λ r. AreSeats 1 r.0.items × (length r.0.items ≡ min slots (2 ^ 32))) }
+    ensures parts { IfOk result (λ r. (r.1.items ≡ []) × (1 ≤ vec_capacity r.1)) }
+{
+    let seats = make_seats(alloc, 1, slots.min(4_294_967_296))?;
+    let parts = Vec::with_capacity(alloc, 1)?;
+    Ok((seats, parts))
+}
+
+// The seats of the slots that a `u32` can name, an empty row with room for its builders for each worker, and room for the parts.
+fn prepare<B: Builder>(
+    alloc: Global,
+    workers: usize,
+    slots: usize,
+) -> Result<(Vec<Seat>, Vec<Vec<B>>, Vec<Part<B>>), AllocError>
+    requires some { 0 < workers }
+    requires most { workers ≤ 64 }
+    requires small { slots + workers < 2 ^ 64 }
+    ensures seats { IfOk result (λ r. AreSeats workers r.0.items × (length r.0.items ≡ min slots (2 ^ 32))) }
+    ensures rows { IfOk result (λ r. (length r.1.items ≡ workers) × ((k : ℕ) (d : _) → k < workers → ((slice_index_or r.1.items k d).items ≡ []) × (slots ≤ vec_capacity (slice_index_or r.1.items k d) * workers))) }
+    ensures parts { IfOk result (λ r. (r.2.items ≡ []) × (workers ≤ vec_capacity r.2)) }
+{
+    let seats = make_seats(alloc, workers, slots.min(4_294_967_296))?;
+    let rows = make_rows(alloc, workers, slots / workers + 1)?;
+    let parts = Vec::with_capacity(alloc, workers)?;
+    Ok((seats, rows, parts))
+}
+
+/// What a slot and its items end with rests on that slot's value and its own items alone.
+pub fn slots_alone<B: Builder>()
+    ensures slots { (t : Course B.Value B.Item B.Outcome) (slot : ℕ) → filter (λ p. p.0 == slot) (end_slots B.after t) ≡ slot_endings B.after (filter (λ p. p.0 == slot) t.slots) (filter (λ job. job.slot == slot) t.jobs) }
+    ensures items { (t : Course B.Value B.Item B.Outcome) (slot : ℕ) → filter (λ job. job.slot == slot) (end_jobs B.after B.outcome t) ≡ job_endings B.after B.outcome (filter (λ p. p.0 == slot) t.slots) (filter (λ job. job.slot == slot) t.jobs) }
+{}
+
+/// Whichever workers step, and in whatever order, each slot and each item ends alike.
+///
+/// No step changes an ending (`kept`). Once every item is done, the slots and the items are as the endings of the first state say:
+/// each item applied to its slot, in the order of dealing (`ended`, and as plain lists `values` and `outcomes`). While an item is
+/// left its worker has one to apply, so that a run can go on (`goes_on`).
+pub fn deal_theorem<B: Builder>()
+    ensures kept { (workers : List ℕ) (old new : Course B.Value B.Item B.Outcome) → Leads B.after B.outcome workers old new → SameEndings B.after B.outcome old new }
+    ensures ended { (workers : List ℕ) (old new : Course B.Value B.Item B.Outcome) → Leads B.after B.outcome workers old new → AllDone new.jobs → (new.slots ≡ end_slots B.after old) × (new.jobs ≡ end_jobs B.after B.outcome old) }
+    ensures values { (workers : List ℕ) (old new : Course B.Value B.Item B.Outcome) → Leads B.after B.outcome workers old new → AllDone new.jobs → map (λ p. p.1) new.slots ≡ ending_values B.after old }
+    ensures outcomes { (workers : List ℕ) (old new : Course B.Value B.Item B.Outcome) → Leads B.after B.outcome workers old new → AllDone new.jobs → outcomes new.jobs ≡ ending_outcomes B.after B.outcome old }
+    ensures goes_on { (worker place : ℕ) (t : Course B.Value B.Item B.Outcome) (job : Job B.Item B.Outcome) → slice_get t.jobs place ≡ Some job → is_queued job.state ≡ true → job.slot % t.workers ≡ worker → front worker t ≢ None }
+{}

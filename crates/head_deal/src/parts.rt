@@ -1,0 +1,197 @@
+//! The part of one worker.
+
+ghost use Rattle.std.specs.Prelude.{◌≡◌, ℕ, ◌<◌, ◌≤◌, ◌+◌, ◌*◌, ◌^◌, ◌++◌, ◌∷◌, [], length, All, OnOk, OnErr, IfErr, IfOk, slice_index_or, vec_capacity};
+ghost use Rattle.head_deal.specs.Dealing.{strided, share_course, share_lists, SameEndings, AllDone, StoppedAt, FitsIn, Kept};
+ghost use Rattle.head_deal.specs.Entries.{entries};
+ghost use Rattle.head_deal.specs.Holding.{PartStep};
+ghost use Rattle.head_deal.specs.Jobs.{Queued};
+
+use crate::{Builder, Stepped};
+use std::alloc::{AllocError, Global};
+use std::marker::Model;
+use std::mem;
+
+/// An item with its element among its worker's builders, and its number in the order of dealing.
+#[derive(Drop)]
+pub(crate) struct Due<I> {
+    pub(crate) number: u32,
+    pub(crate) element: u32,
+    pub(crate) item: I,
+}
+
+/// One worker's part of a deal: the builders of its slots, in rising order, its items in the order of dealing, and the outcomes of
+/// those that are done, which are the first.
+#[derive(Drop)]
+pub struct Part<B: Builder> {
+    pub(crate) tag: u64,
+    pub(crate) workers: usize,
+    pub(crate) worker: usize,
+    pub(crate) all_slots: usize,
+    pub(crate) all_jobs: usize,
+    pub(crate) builders: Vec<B>,
+    pub(crate) dues: Vec<Due<B::Item>>,
+    pub(crate) outcomes: Vec<B::Outcome>,
+}
+
+impl<B: Builder> Model for Part<B> {
+    ghost use Rattle.std.specs.Prelude.{List, ◌<◌, ◌≤◌, ◌+◌, ◌*◌, ◌^◌, ℕ, All, length};
+    ghost use Rattle.head_deal.specs.Dealing.{Share, strided};
+    ghost use Rattle.head_deal.specs.Entries.{entries};
+
+    ghost Value = { Share B B.Item B.Outcome };
+
+    ghost view = { λ p. record { tag = p.tag; workers = p.workers; worker = p.worker; all_slots = p.all_slots; all_jobs = p.all_jobs; slots = strided p.worker p.workers p.builders.items; jobs = entries p.worker p.workers p.dues.items p.outcomes.items } };
+
+    ghost invariant = { λ p. (p.worker < p.workers) × All (λ due. due.element < length p.builders.items) p.dues.items × (length p.outcomes.items ≤ length p.dues.items) × (p.worker + length p.builders.items * p.workers < p.all_slots + p.workers) × (p.all_slots + p.workers < 2 ^ 64) };
+}
+
+/// Applies each item that is left of the part, in the order of dealing. Where memory ran out it stops at the item that was refused,
+/// and a later call goes on from there.
+pub fn run_part<B: Builder>(part: &mut Part<B>) -> Result<(), AllocError>
+    ensures kept { Kept B.value B.after B.outcome part.old part.new }
+    ensures done { OnOk result (AllDone part.new.jobs) }
+    ensures stopped { OnErr result ((place : ℕ) × StoppedAt part.old.jobs part.new.jobs place) }
+{
+    run_dues(
+        &mut part.builders,
+        &part.dues,
+        &mut part.outcomes,
+        part.workers,
+        part.worker,
+    )
+}
+
+fn run_dues<B: Builder>(
+    builders: &mut Vec<B>,
+    dues: &Vec<Due<B::Item>>,
+    outcomes: &mut Vec<B::Outcome>,
+    workers: usize,
+    worker: usize,
+) -> Result<(), AllocError>
+    requires workers { worker < workers }
+    requires fit { All (λ due. due.element < length builders.old.items) dues.now.items }
+    requires some { length outcomes.old.items ≤ length dues.now.items }
+    ensures endings { SameEndings B.after B.outcome (share_lists B.value workers worker builders.old.items (entries worker workers dues.now.items outcomes.old.items)) (share_lists B.value workers worker builders.new.items (entries worker workers dues.now.items outcomes.new.items)) }
+    ensures done { OnOk result (AllDone (entries worker workers dues.now.items outcomes.new.items)) }
+    ensures stopped { OnErr result ((place : ℕ) × StoppedAt (entries worker workers dues.now.items outcomes.old.items) (entries worker workers dues.now.items outcomes.new.items) place) }
+    ensures builders { length builders.new.items ≡ length builders.old.items }
+    ensures outcomes { length outcomes.new.items ≤ length dues.now.items }
+{
+    let first = outcomes.len();
+    outcomes.reserve(dues.len() - first)?;
+    for place in first..dues.len() {
+        let due = &dues[place];
+        let builder = &mut builders[due.element as usize];
+        match builder.apply(&due.item) {
+            Ok(outcome) => outcomes.push_reserved(outcome),
+            Err(refused) => return Err(refused),
+        }
+    }
+    Ok(())
+}
+
+impl<B: Builder> Part<B> {
+    /// Takes an item dealt to the element.
+    pub(crate) fn take(&mut self, number: u32, element: u32, item: B::Item) -> Result<(), B::Item>
+        requires { element < length self.old.slots }
+        ensures taken { OnOk result (self.new ≡ record self.old { jobs = self.old.jobs ++ record { number = number; slot = self.old.worker + element * self.old.workers; state = Queued item } ∷ [] }) }
+        ensures refused { OnErr result (self.new ≡ self.old) }
+        ensures handed_back { IfErr result (λ i. i ≡ item) }
+    {
+        match self.dues.push(Due {
+            number,
+            element,
+            item,
+        }) {
+            Ok(()) => Ok(()),
+            Err(failed) => Err(failed.value.item),
+        }
+    }
+
+    /// Applies the first item that is left.
+    pub(crate) fn step(&mut self) -> Result<Stepped<B::Outcome>, AllocError>
+        ensures { PartStep B.value B.after B.outcome self.old result self.new }
+    {
+        let place = self.outcomes.len();
+        if place >= self.dues.len() {
+            return Ok(Stepped::Empty);
+        }
+        let due = &self.dues[place];
+        let builder = &mut self.builders[due.element as usize];
+        match self.outcomes.reserve(1) {
+            Ok(()) => {}
+            Err(refused) => return Err(refused),
+        }
+        match builder.apply(&due.item) {
+            Ok(outcome) => {
+                self.outcomes.push_reserved(outcome);
+                Ok(Stepped::Done(outcome))
+            }
+            Err(refused) => Err(refused),
+        }
+    }
+
+    fn count_all(&mut self, count: usize)
+        ensures { self.new ≡ record self.old { all_jobs = count } }
+    {
+        self.all_jobs = count;
+    }
+}
+
+/// Notes in each part how many items there are in all.
+pub(crate) fn count_in<B: Builder>(parts: &mut Vec<Part<B>>, count: usize)
+    ensures each { length parts.new.items ≡ length parts.old.items }
+    ensures counted { (k : ℕ) (p : _) → k < length parts.old.items → slice_index_or parts.new.items k p ≡ record (slice_index_or parts.old.items k p) { all_jobs = count } }
+{
+    for place in 0..parts.len() {
+        parts[place].count_all(count);
+    }
+}
+
+/// The part of a lone worker, with no items: its builders are all of them.
+pub(crate) fn lone_part<B: Builder>(alloc: Global, tag: u64, builders: Vec<B>) -> Part<B>
+    ensures { result ≡ record { tag = tag; workers = 1; worker = 0; all_slots = length builders.items; all_jobs = 0; slots = strided 0 1 builders.items; jobs = [] } }
+{
+    Part {
+        tag,
+        workers: 1,
+        worker: 0,
+        all_slots: builders.len(),
+        all_jobs: 0,
+        builders,
+        dues: Vec::new(alloc),
+        outcomes: Vec::new(alloc),
+    }
+}
+
+/// Makes a part of each row, with no items.
+pub(crate) fn build_parts<B: Builder>(
+    alloc: Global,
+    parts: &mut Vec<Part<B>>,
+    rows: &mut Vec<Vec<B>>,
+    tag: u64,
+    workers: usize,
+    all_slots: usize,
+)
+    requires empty { parts.old.items ≡ [] }
+    requires room { workers ≤ vec_capacity parts.old }
+    requires rows { length rows.old.items ≡ workers }
+    requires seated { (k : ℕ) (d : _) → k < workers → k + length (slice_index_or rows.old.items k d).items * workers < all_slots + workers }
+    requires small { all_slots + workers < 2 ^ 64 }
+    ensures each { length parts.new.items ≡ workers }
+    ensures built { (k : ℕ) (p : _) (d : _) → k < workers → slice_index_or parts.new.items k p ≡ record { tag = tag; workers = workers; worker = k; all_slots = all_slots; all_jobs = 0; slots = strided k workers (slice_index_or rows.old.items k d).items; jobs = [] } }
+{
+    for worker in 0..workers {
+        let builders = mem::replace(&mut rows[worker], Vec::new(alloc));
+        parts.push_reserved(Part {
+            tag,
+            workers,
+            worker,
+            all_slots,
+            all_jobs: 0,
+            builders,
+            dues: Vec::new(alloc),
+            outcomes: Vec::new(alloc),
+        });
+    }
+}
