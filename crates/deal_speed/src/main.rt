@@ -5,10 +5,8 @@
 //! after another. It prints the number of items dealt, of items run, or of outcomes joined.
 #![tactic(auto)]
 
-mod latest;
-
+use head_column::{Item, Sample, Tally};
 use head_deal::{Deal, Part, join_parts, run_part};
-use latest::{Item, Latest};
 use std::alloc::{AllocError, Global};
 use std::env;
 use std::process::ExitCode;
@@ -52,21 +50,22 @@ fn plan_of(words: &[String]) -> Option<Plan> {
 }
 
 // A builder for each slot.
-fn builders(alloc: Global) -> Result<Vec<Latest>, AllocError> {
+fn builders(alloc: Global) -> Result<Vec<Tally>, AllocError> {
     let mut builders = Vec::with_capacity(alloc, SLOTS as usize)?;
     for _slot in 0..SLOTS {
-        builders.push(Latest::new())?;
+        builders.push(Tally::new())?;
     }
     Ok(builders)
 }
 
 // Deals an item of this time to each slot.
-fn deal_lap(deal: &mut Deal<Latest>, time: i64) -> Result<(), AllocError> {
+fn deal_lap(deal: &mut Deal<Tally>, time: i64) -> Result<(), AllocError> {
     for slot in 0..SLOTS {
         if deal.is_full() || slot as usize >= deal.slots() {
             return Err(AllocError);
         }
-        deal.deal(slot, Item::Sample(time)).map_err(|_| AllocError)?;
+        deal.deal(slot, Item::Sample(Sample { time, value: 0 }))
+            .map_err(|_| AllocError)?;
     }
     Ok(())
 }
@@ -75,9 +74,9 @@ fn deal_lap(deal: &mut Deal<Latest>, time: i64) -> Result<(), AllocError> {
 fn dealt(
     alloc: Global,
     workers: usize,
-    builders: Vec<Latest>,
+    builders: Vec<Tally>,
     round: u64,
-) -> Result<Vec<Part<Latest>>, AllocError> {
+) -> Result<Vec<Part<Tally>>, AllocError> {
     let mut deal = Deal::new(alloc, round, workers, builders).map_err(|_| AllocError)?;
     let first = i64::try_from(round.saturating_mul(25)).unwrap_or(i64::MAX);
     for lap in 0..LAPS {
@@ -88,10 +87,10 @@ fn dealt(
 
 // How many items or outcomes there were.
 fn run(alloc: Global, plan: Plan) -> Result<u64, AllocError> {
-    let mut latest = builders(alloc)?;
+    let mut tallies = builders(alloc)?;
     let mut count = 0u64;
     for round in 0..plan.rounds {
-        let mut parts = dealt(alloc, plan.workers, latest, round)?;
+        let mut parts = dealt(alloc, plan.workers, tallies, round)?;
         if plan.what != What::Deal {
             for part in parts.iter_mut() {
                 run_part(part)?;
@@ -100,10 +99,10 @@ fn run(alloc: Global, plan: Plan) -> Result<u64, AllocError> {
         if plan.what == What::Join {
             let joined = join_parts(alloc, parts).map_err(|_| AllocError)?;
             count = count.saturating_add(joined.outcomes.len() as u64);
-            latest = joined.builders;
+            tallies = joined.builders;
         } else {
             count = count.saturating_add(u64::from(SLOTS * LAPS));
-            latest = builders(alloc)?;
+            tallies = builders(alloc)?;
         }
     }
     Ok(count)
