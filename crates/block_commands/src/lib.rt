@@ -6,11 +6,14 @@ mod blocks;
 mod commands;
 mod cutting;
 mod fault;
+mod laws;
 mod parts;
 mod ranges;
 mod report;
 mod writing;
 
 pub use commands::{BlockRequest, carry_out_block};
+pub use cutting::CutRequest;
+pub use laws::however_dealt;
 pub use parts::read_parts;
 pub use writing::write_block;

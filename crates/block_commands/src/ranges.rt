@@ -4,9 +4,11 @@ ghost use Rattle.std.specs.Prelude.{◌≡◌, false};
 
 use crate::report::ranges_text;
 use block_cut::full_ranges;
-use head_core::{Replayed, replay_serial};
+use head_replay::{NoGate, Options, Replayed, replay};
 use prom_commands::{Answer, Fault, Store, read_log};
 use std::alloc::Global;
+use std::sync::Wait;
+use std::thread::Threads;
 
 // The full hours of a replayed log, a line each.
 fn listed(alloc: Global, replayed: &Replayed) -> Result<Answer, Fault>
@@ -18,8 +20,14 @@ fn listed(alloc: Global, replayed: &Replayed) -> Result<Answer, Fault>
 }
 
 /// Lists the full hours of the log in a directory, as far as it is not damaged.
-pub fn ranges<S: Store>(alloc: Global, store: &mut S, dir: &str) -> Result<Answer, Fault> {
+pub fn ranges<R: Threads + Wait + Sync, S: Store>(
+    rt: &R,
+    alloc: Global,
+    store: &mut S,
+    dir: &str,
+    options: &Options,
+) -> Result<Answer, Fault> {
     let input = read_log(alloc, store, dir)?;
-    let replayed = replay_serial(alloc, &input)?;
+    let replayed = replay(rt, alloc, &input, options, &NoGate)?;
     listed(alloc, &replayed)
 }

@@ -4,15 +4,21 @@ use crate::block_bytes::assert_names;
 use crate::fragments::*;
 use crate::runs::*;
 use crate::shelf::Shelf;
+use head_replay::Options;
 use live_commands::AppendRequest;
 use prom_commands::{Fault, Store, StoreFault};
 use std::alloc::{AllocError, Global};
 use std::process::Abort;
+use std::sync::Wait;
+use std::thread::Threads;
 
-const APPEND: AppendRequest<'static> = AppendRequest {
-    dir: "log",
-    rows: "rows",
-};
+fn append(options: Options) -> AppendRequest<'static> {
+    AppendRequest {
+        dir: "log",
+        rows: "rows",
+        options,
+    }
+}
 
 const ROWS: &[u8] = b"1000 5 job=api\n1015 6 job=api\n1015 7 job=api\n";
 
@@ -33,13 +39,14 @@ fn shelf_of(alloc: Global, files: &[Named<'_>], rows: &[u8]) -> Result<Shelf, St
 }
 
 // Appends rows, which is to leave this status, print this, say this and leave these names in the log.
-fn assert_append<R: Abort + AllocGlobal>(
+fn assert_append<R: Abort + Threads + Wait + Sync + AllocGlobal>(
     rt: &R,
     shelf: &mut Shelf,
+    options: Options,
     want: (u8, &str, &str),
     left: &str,
 ) -> Result<(), StoreFault> {
-    assert_append_run(rt, want.2, shelf, APPEND, want)?;
+    assert_append_run(rt, want.2, shelf, append(options), want)?;
     assert_names(rt, shelf, "log", left)
 }
 
@@ -59,24 +66,36 @@ fn put_rows(shelf: &mut Shelf, rows: &[u8]) -> Result<(), StoreFault> {
     shelf.put("rows", rows)
 }
 
-// Two segments are written, one after the other, and a third is refused.
-#[test]
-fn append_command(rt: HostRuntime) -> Result<(), StoreFault> {
+// Appends three rows to a log of no segment, and then one more.
+fn assert_two_appends<R: Abort + Threads + Wait + Sync + AllocGlobal>(
+    rt: &R,
+    options: Options,
+) -> Result<Shelf, StoreFault> {
     let alloc = rt.alloc();
     let mut shelf = shelf_of(alloc, &[], ROWS)?;
     let three = (0, "accepted\naccepted\nstale\nsegment 00000000\n", "");
-    assert_append(&rt, &mut shelf, three, " 00000000")?;
+    assert_append(rt, &mut shelf, options, three, " 00000000")?;
     let written = joined(alloc, &[SERIES_1_JOB_API, SAMPLES_1_AT_1000_1015])?;
-    assert_file(&rt, &mut shelf, "log/00000000", &written)?;
+    assert_file(rt, &mut shelf, "log/00000000", &written)?;
     put_rows(&mut shelf, MORE)?;
     let one = (0, "accepted\nsegment 00000001\n", "");
-    assert_append(&rt, &mut shelf, one, " 00000000 00000001")?;
-    assert_file(&rt, &mut shelf, "log/00000001", SAMPLE_1_AT_1030)?;
-    let counts = "series_records 1, sample_records 2, series_entries 1, series 1, accepted 3";
-    assert_replay_of(&rt, "both", &mut shelf, counts, "none")?;
-    put_rows(&mut shelf, b"1 1 a=1\n1 1 b=1 a=1\n")?;
-    let bad = (3, "", "line 2: label names not ascending");
-    assert_append(&rt, &mut shelf, bad, " 00000000 00000001")
+    assert_append(rt, &mut shelf, options, one, " 00000000 00000001")?;
+    assert_file(rt, &mut shelf, "log/00000001", SAMPLE_1_AT_1030)?;
+    Ok(shelf)
+}
+
+// Two segments are written, one after the other, and a third is refused.
+#[test]
+fn append_command(rt: HostRuntime) -> Result<(), StoreFault> {
+    for options in OPTIONS {
+        let mut shelf = assert_two_appends(&rt, options)?;
+        let counts = "series_records 1, sample_records 2, series_entries 1, series 1, accepted 3";
+        assert_replay_of(&rt, "both", &mut shelf, counts, "none")?;
+        put_rows(&mut shelf, b"1 1 a=1\n1 1 b=1 a=1\n")?;
+        let bad = (3, "", "line 2: label names not ascending");
+        assert_append(&rt, &mut shelf, options, bad, " 00000000 00000001")?;
+    }
+    Ok(())
 }
 
 // Files of rows, and what is said of each.
@@ -120,10 +139,10 @@ const NO_ROWS: [(&[u8], &str); 24] = [
 fn files_of_no_rows(rt: HostRuntime) -> Result<(), StoreFault> {
     for (rows, said) in NO_ROWS {
         let mut shelf = shelf_of(rt.alloc(), &[], rows)?;
-        assert_append(&rt, &mut shelf, (3, "", said), "")?;
+        assert_append(&rt, &mut shelf, ANY, (3, "", said), "")?;
     }
     let mut none = shelf_of(rt.alloc(), &[], b"")?;
-    assert_append(&rt, &mut none, (0, "", ""), "")
+    assert_append(&rt, &mut none, ANY, (0, "", ""), "")
 }
 
 // The greatest and the least numbers, labels as they are printed, a row of no labels, and no newline at the end.
@@ -133,7 +152,7 @@ fn rows_at_the_ends(rt: HostRuntime) -> Result<(), StoreFault> {
         -9223372036854775808 -0 a=\\x20\\x5c\\x3d\n007 1";
     let mut shelf = shelf_of(rt.alloc(), &[], rows)?;
     let want = (0, "accepted\nstale\naccepted\nsegment 00000000\n", "");
-    assert_append(&rt, &mut shelf, want, " 00000000")?;
+    assert_append(&rt, &mut shelf, ANY, want, " 00000000")?;
     let series = (0, "0 1 a=\\x20\\x5c\\x3d\n1 1\n", "");
     assert_run(&rt, "series", &mut shelf, SERIES, series)?;
     Ok(())
@@ -161,12 +180,13 @@ fn numbers_of_segments(rt: HostRuntime) -> Result<(), StoreFault> {
     for (name, printed, said, left) in NUMBERS {
         let mut shelf = shelf_of(rt.alloc(), &[(name, b"")], MORE)?;
         let status = if said.is_empty() { 0 } else { 3 };
-        assert_append(&rt, &mut shelf, (status, printed, said), left)?;
+        assert_append(&rt, &mut shelf, ANY, (status, printed, said), left)?;
     }
     let mut shelf = shelf_of(rt.alloc(), &[], MORE)?;
     shelf.put_dir("log/checkpoint.00000041")?;
     let want = (0, "accepted\nsegment 00000042\n", "");
-    assert_append(&rt, &mut shelf, want, " checkpoint.00000041 00000042")
+    let left = " checkpoint.00000041 00000042";
+    assert_append(&rt, &mut shelf, ANY, want, left)
 }
 
 const SERIES_OF_THE_LAST_REFERENCE: &[u8] = b"\x01\0\x0e\xd0\xb9\xf8\xb5\
@@ -178,36 +198,44 @@ const SERIES_OF_THE_LAST_REFERENCE: &[u8] = b"\x01\0\x0e\xd0\xb9\xf8\xb5\
 #[test]
 fn references_spent(rt: HostRuntime) -> Result<(), StoreFault> {
     let files = [("00000000", SERIES_OF_THE_LAST_REFERENCE)];
-    let mut shelf = shelf_of(rt.alloc(), &files, b"1000 5 a=b\n")?;
-    let one = (0, "accepted\nsegment 00000001\n", "");
-    assert_append(&rt, &mut shelf, one, " 00000000 00000001")?;
-    put_rows(&mut shelf, b"1001 5 a=b\n1000 5 a=c\n")?;
-    let spent = (3, "", "references spent");
-    assert_append(&rt, &mut shelf, spent, " 00000000 00000001")
+    for options in OPTIONS {
+        let mut shelf = shelf_of(rt.alloc(), &files, b"1000 5 a=b\n")?;
+        let one = (0, "accepted\nsegment 00000001\n", "");
+        assert_append(&rt, &mut shelf, options, one, " 00000000 00000001")?;
+        put_rows(&mut shelf, b"1001 5 a=b\n1000 5 a=c\n")?;
+        let spent = (3, "", "references spent");
+        assert_append(&rt, &mut shelf, options, spent, " 00000000 00000001")?;
+    }
+    Ok(())
 }
 
-// That rows are longer than a segment of 134,217,728 bytes is shown of the log's writer, in small.
-#[test]
-fn texts_of_refused_rows(rt: HostRuntime) -> Result<(), AllocError> {
-    let fault = Fault::SegmentFull;
-    let found = (fault.status() as u8, fault.to_string(rt.alloc())?);
-    same(
-        &rt,
-        "status",
-        (found.0, found.1.as_str()),
-        (3, "rows do not fit one segment"),
-    );
+fn assert_fault<R: Abort + AllocGlobal>(
+    rt: &R,
+    fault: Fault,
+    wanted: (u8, &str),
+) -> Result<(), AllocError> {
+    let text = fault.to_string(rt.alloc())?;
+    same(rt, wanted.1, (fault.status() as u8, text.as_str()), wanted);
     Ok(())
+}
+
+// That rows are longer than a segment of 134,217,728 bytes is shown of the log's writer, in small. No run here is refused a thread.
+#[test]
+fn faults_of_no_run(rt: HostRuntime) -> Result<(), AllocError> {
+    assert_fault(&rt, Fault::SegmentFull, (3, "rows do not fit one segment"))?;
+    assert_fault(&rt, Fault::Workers, (4, "a thread could not start"))
 }
 
 // Nothing more is read of a damaged log, and nothing written.
 #[test]
 fn damaged_log(rt: HostRuntime) -> Result<(), StoreFault> {
-    let mut shelf = shelf_with(rt.alloc(), &[("00000000", OF_BAD_TYPE)])?;
-    let damage = "damage segment 00000000 offset 0 kind 3 BadType";
-    assert_append(&rt, &mut shelf, (1, "", damage), " 00000000")?;
+    for options in OPTIONS {
+        let mut shelf = shelf_with(rt.alloc(), &[("00000000", OF_BAD_TYPE)])?;
+        let damage = "damage segment 00000000 offset 0 kind 3 BadType";
+        assert_append(&rt, &mut shelf, options, (1, "", damage), " 00000000")?;
+    }
     let mut whole = shelf_with(rt.alloc(), &[])?;
-    assert_append(&rt, &mut whole, (3, "", "cannot read rows"), "")
+    assert_append(&rt, &mut whole, ANY, (3, "", "cannot read rows"), "")
 }
 
 // A file that a run left which was killed is replaced. A claim that it left is a segment of no records.
@@ -216,33 +244,36 @@ fn after_a_killed_run(rt: HostRuntime) -> Result<(), StoreFault> {
     let files = [("00000000.tmp", OF_BAD_TYPE)];
     let mut shelf = shelf_of(rt.alloc(), &files, MORE)?;
     let want = (0, "accepted\nsegment 00000000\n", "");
-    assert_append(&rt, &mut shelf, want, " 00000000")?;
+    assert_append(&rt, &mut shelf, ANY, want, " 00000000")?;
     let files: [Named; 2] = [("00000000", b""), ("00000000.tmp", OF_BAD_TYPE)];
     let mut shelf = shelf_of(rt.alloc(), &files, MORE)?;
     let want = (0, "accepted\nsegment 00000001\n", "");
     let left = " 00000000 00000000.tmp 00000001";
-    assert_append(&rt, &mut shelf, want, left)
+    assert_append(&rt, &mut shelf, ANY, want, left)
 }
 
-// Appends where a call of the store fails. Both files are then gone.
-fn assert_failing_append<R: Abort + AllocGlobal>(
+// Appends where a call of the store fails, with each of the options. Both files are then gone.
+fn assert_failing_append<R: Abort + Threads + Wait + Sync + AllocGlobal>(
     rt: &R,
     call: u64,
     fault: StoreFault,
     want: (u8, &str, &str),
 ) -> Result<(), StoreFault> {
     let files = [("00000000", SERIES_1_JOB_API)];
-    let mut shelf = shelf_of(rt.alloc(), &files, MORE)?;
-    shelf.fail(call, fault)?;
-    assert_append_run(rt, want.2, &mut shelf, APPEND, want)?;
-    // no call fails from here on
-    shelf.fail(0, fault)?;
     let left = if want.0 == 0 {
         " 00000000 00000001"
     } else {
         " 00000000"
     };
-    assert_names(rt, &mut shelf, "log", left)
+    for options in OPTIONS {
+        let mut shelf = shelf_of(rt.alloc(), &files, MORE)?;
+        shelf.fail(call, fault)?;
+        assert_append_run(rt, want.2, &mut shelf, append(options), want)?;
+        // no call fails from here on
+        shelf.fail(0, fault)?;
+        assert_names(rt, &mut shelf, "log", left)?;
+    }
+    Ok(())
 }
 
 const DONE: (u8, &str, &str) = (0, "accepted\nsegment 00000001\n", "");

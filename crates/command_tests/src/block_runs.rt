@@ -7,6 +7,7 @@ use block_commands::BlockRequest;
 use prom_commands::StoreFault;
 use std::alloc::{AllocError, Global};
 use std::process::Abort;
+use std::sync::Wait;
 use std::thread::Threads;
 
 const BLOCK: BlockRequest<'static> = BlockRequest::Block { path: "b" };
@@ -17,7 +18,7 @@ fn block_text(alloc: Global, counts: &str) -> Result<String, AllocError> {
 }
 
 // Says what a block holds, where it is to print these last lines.
-fn assert_holds<R: Abort + Threads + Sync + AllocGlobal>(
+fn assert_holds<R: Abort + Threads + Wait + Sync + AllocGlobal>(
     rt: &R,
     case: &str,
     files: &Files,
@@ -61,7 +62,7 @@ fn change(bytes: &mut [u8], changes: &[(usize, u8)]) {
 }
 
 // Says what a block holds, where it is refused.
-fn assert_bad<R: Abort + Threads + Sync + AllocGlobal>(
+fn assert_bad<R: Abort + Threads + Wait + Sync + AllocGlobal>(
     rt: &R,
     case: &str,
     files: &Files,
@@ -249,7 +250,7 @@ const CALLS: [(u64, &str); 5] = [
 ];
 
 // Says what the block of three series with a bad index holds, where a call fails.
-fn assert_failing<R: Abort + Threads + Sync + AllocGlobal>(
+fn assert_failing<R: Abort + Threads + Wait + Sync + AllocGlobal>(
     rt: &R,
     failure: (u64, StoreFault),
     calls: u64,

@@ -4,24 +4,25 @@ use crate::block_bytes::*;
 use crate::fragments::*;
 use crate::runs::*;
 use crate::shelf::Shelf;
-use block_commands::BlockRequest;
+use block_commands::{BlockRequest, CutRequest};
+use head_replay::Options;
 use hw_bytes::put_varint;
 use prom_commands::StoreFault;
 use std::alloc::{AllocError, Global};
 use std::process::Abort;
+use std::sync::Wait;
 use std::thread::Threads;
-
-const RANGES: BlockRequest<'static> = BlockRequest::Ranges { dir: "log" };
 
 const UNFINISHED: &str = "01ARZ3NDEKTSV4RRFFQ69G5FAV.tmp";
 
-fn cut(hour: i64) -> BlockRequest<'static> {
-    BlockRequest::Cut {
+fn cut(hour: i64, options: Options) -> BlockRequest<'static> {
+    BlockRequest::Cut(CutRequest {
         dir: "log",
         hour,
         ulid: ULID,
         out: "out",
-    }
+        options,
+    })
 }
 
 // A store with a directory `log` that has one segment of these fragments, and an empty directory `out`.
@@ -32,28 +33,46 @@ fn shelf_of(alloc: Global, fragments: &[&[u8]]) -> Result<Shelf, StoreFault> {
     Ok(shelf)
 }
 
-// Cuts an hour, where nothing is to be written.
-fn assert_not_cut<R: Abort + Threads + Sync + AllocGlobal>(
+// Lists the hours of a log with each of the options, which is to leave this status, print this and say this each time.
+fn assert_ranges<R: Abort + Threads + Wait + Sync + AllocGlobal>(
+    rt: &R,
+    shelf: &mut Shelf,
+    want: (u8, &str, &str),
+) -> Result<(), AllocError> {
+    for options in OPTIONS {
+        let dir = "log";
+        let request = BlockRequest::Ranges { dir, options };
+        assert_block_run(rt, "ranges", shelf, request, want)?;
+    }
+    Ok(())
+}
+
+// Cuts an hour with each of the options, where nothing is to be written.
+fn assert_not_cut<R: Abort + Threads + Wait + Sync + AllocGlobal>(
     rt: &R,
     shelf: &mut Shelf,
     hour: i64,
     status: u8,
     said: &str,
 ) -> Result<(), StoreFault> {
-    assert_block_run(rt, said, shelf, cut(hour), (status, "", said))?;
+    for options in OPTIONS {
+        let request = cut(hour, options);
+        assert_block_run(rt, said, shelf, request, (status, "", said))?;
+    }
     assert_names(rt, shelf, "out", "")
 }
 
 // Cuts the hour 0, which is to print these counts and leave these files, and says what the block holds.
-fn assert_cut<R: Abort + Threads + Sync + AllocGlobal>(
+fn assert_one_cut<R: Abort + Threads + Wait + Sync + AllocGlobal>(
     rt: &R,
     shelf: &mut Shelf,
+    options: Options,
     files: &Files,
     counts: &str,
     hidden: &str,
 ) -> Result<(), StoreFault> {
     let folder = format!(in rt.alloc(); "out/{ULID}")?;
-    assert_block_run(rt, "cut", shelf, cut(0), (0, counts, ""))?;
+    assert_block_run(rt, "cut", shelf, cut(0, options), (0, counts, ""))?;
     assert_names(rt, shelf, "out", " 01ARZ3NDEKTSV4RRFFQ69G5FAV")?;
     files.assert_in(rt, shelf, &folder)?;
     let printed = format!(in rt.alloc(); "ulid {ULID}\nrange 0 3600000\n{counts}{hidden}")?;
@@ -62,11 +81,27 @@ fn assert_cut<R: Abort + Threads + Sync + AllocGlobal>(
     Ok(())
 }
 
+// Cuts the hour 0 of one segment of these fragments with each of the options, which is to print these counts and leave these files each
+// time.
+fn assert_cut<R: Abort + Threads + Wait + Sync + AllocGlobal>(
+    rt: &R,
+    fragments: &[&[u8]],
+    files: &Files,
+    counts: &str,
+    hidden: &str,
+) -> Result<(), StoreFault> {
+    for options in OPTIONS {
+        let mut shelf = shelf_of(rt.alloc(), fragments)?;
+        assert_one_cut(rt, &mut shelf, options, files, counts, hidden)?;
+    }
+    Ok(())
+}
+
 #[test]
 fn empty_directory(rt: HostRuntime) -> Result<(), StoreFault> {
     let mut shelf = shelf_with(rt.alloc(), &[])?;
     shelf.put_dir("out")?;
-    assert_block_run(&rt, "ranges", &mut shelf, RANGES, (0, "", ""))?;
+    assert_ranges(&rt, &mut shelf, (0, "", ""))?;
     assert_not_cut(&rt, &mut shelf, 0, 3, "hour not full")
 }
 
@@ -83,7 +118,7 @@ const EDGES: [i64; 6] = [
 #[test]
 fn ends_of_time(rt: HostRuntime) -> Result<(), StoreFault> {
     let mut shelf = shelf_of(rt.alloc(), &[SERIES_1_A_B, SAMPLES_1_AT_THE_ENDS])?;
-    assert_block_run(&rt, "ranges", &mut shelf, RANGES, (0, "", ""))?;
+    assert_ranges(&rt, &mut shelf, (0, "", ""))?;
     for hour in EDGES {
         assert_not_cut(&rt, &mut shelf, hour, 3, "hour at the edge of time")?;
     }
@@ -92,23 +127,22 @@ fn ends_of_time(rt: HostRuntime) -> Result<(), StoreFault> {
 
 #[test]
 fn three_series_one_block(rt: HostRuntime) -> Result<(), StoreFault> {
-    let mut shelf = shelf_of(rt.alloc(), &[THREE_SERIES, SAMPLES_OF_THREE_SERIES])?;
-    let ranges = (0, "0 0 3600000\n", "");
-    assert_block_run(&rt, "ranges", &mut shelf, RANGES, ranges)?;
+    let log = [THREE_SERIES, SAMPLES_OF_THREE_SERIES];
+    let mut shelf = shelf_of(rt.alloc(), &log)?;
+    assert_ranges(&rt, &mut shelf, (0, "0 0 3600000\n", ""))?;
     assert_not_cut(&rt, &mut shelf, 1, 3, "hour not full")?;
     assert_not_cut(&rt, &mut shelf, -1, 3, "no samples in hour")?;
     let files = Files::three_series(rt.alloc())?;
     let counts = "samples 3\nseries 2\nchunks 2\n";
-    assert_cut(&rt, &mut shelf, &files, counts, "hidden 0\n")
+    assert_cut(&rt, &log, &files, counts, "hidden 0\n")
 }
 
 #[test]
 fn hidden_runs(rt: HostRuntime) -> Result<(), StoreFault> {
     let log = [SERIES_1_A_X_2_A_Y, SAMPLES_1_2_1, STONES_1_1_1_2];
-    let mut shelf = shelf_of(rt.alloc(), &log)?;
     let files = Files::hidden_runs(rt.alloc())?;
     let counts = "samples 2\nseries 2\nchunks 2\n";
-    assert_cut(&rt, &mut shelf, &files, counts, "hidden 2\n")
+    assert_cut(&rt, &log, &files, counts, "hidden 2\n")
 }
 
 const PAGE: usize = 32_768;
@@ -158,11 +192,10 @@ fn two_pages_one_series(rt: HostRuntime) -> Result<(), StoreFault> {
     let mut shelf = shelf_of(rt.alloc(), &[&log])?;
     let replayed = "series_records 1, sample_records 2, series_entries 1, series 1, accepted 122";
     assert_replay_of(&rt, "two pages", &mut shelf, replayed, "none")?;
-    let ranges = (0, "0 0 3600000\n", "");
-    assert_block_run(&rt, "ranges", &mut shelf, RANGES, ranges)?;
+    assert_ranges(&rt, &mut shelf, (0, "0 0 3600000\n", ""))?;
     let files = Files::two_pages(rt.alloc())?;
     let counts = "samples 121\nseries 1\nchunks 2\n";
-    assert_cut(&rt, &mut shelf, &files, counts, "hidden 0\n")
+    assert_cut(&rt, &[&log], &files, counts, "hidden 0\n")
 }
 
 const NO_ULIDS: [&str; 8] = [
@@ -181,12 +214,13 @@ const NO_ULIDS: [&str; 8] = [
 fn names_of_no_block(rt: HostRuntime) -> Result<(), StoreFault> {
     let mut shelf = Shelf::new(rt.alloc())?;
     for ulid in NO_ULIDS {
-        let request = BlockRequest::Cut {
+        let request = BlockRequest::Cut(CutRequest {
             dir: "nowhere",
             hour: 0,
             ulid,
             out: "out",
-        };
+            options: ANY,
+        });
         let want = (2, "", "ulid must be 26 Crockford characters");
         assert_block_run(&rt, ulid, &mut shelf, request, want)?;
     }
@@ -207,8 +241,8 @@ const TAKEN: [(&[&str], &str); 3] = [
     ),
 ];
 
-// Cuts an hour where these names are in `out`, which is to change nothing.
-fn assert_taken<R: Abort + Threads + Sync + AllocGlobal>(
+// Cuts an hour with each of the options where these names are in `out`, which is to change nothing.
+fn assert_taken<R: Abort + Threads + Wait + Sync + AllocGlobal>(
     rt: &R,
     taken: &[&str],
     hour: i64,
@@ -220,7 +254,10 @@ fn assert_taken<R: Abort + Threads + Sync + AllocGlobal>(
         shelf.put_dir(&format!(in alloc; "out/{name}")?)?;
     }
     let before = names(alloc, &mut shelf, "out")?;
-    assert_block_run(rt, said, &mut shelf, cut(hour), (3, "", said))?;
+    for options in OPTIONS {
+        let request = cut(hour, options);
+        assert_block_run(rt, said, &mut shelf, request, (3, "", said))?;
+    }
     assert_names(rt, &mut shelf, "out", &before)
 }
 
@@ -240,9 +277,9 @@ fn no_directory_for_blocks(rt: HostRuntime) -> Result<(), StoreFault> {
     let log = joined(rt.alloc(), &[THREE_SERIES, SAMPLES_OF_THREE_SERIES])?;
     let mut shelf = shelf_with(rt.alloc(), &[("00000000", &log)])?;
     let want = (3, "", "cannot write out/01ARZ3NDEKTSV4RRFFQ69G5FAV.tmp");
-    assert_block_run(&rt, "not there", &mut shelf, cut(0), want)?;
+    assert_block_run(&rt, "not there", &mut shelf, cut(0, ANY), want)?;
     shelf.put("out", b"")?;
-    assert_block_run(&rt, "a file", &mut shelf, cut(0), want)?;
+    assert_block_run(&rt, "a file", &mut shelf, cut(0, ANY), want)?;
     Ok(())
 }
 
@@ -252,13 +289,13 @@ fn blocks_of_a_damaged_log(rt: HostRuntime) -> Result<(), StoreFault> {
     let log = [THREE_SERIES, SAMPLES_OF_THREE_SERIES, OF_BAD_TYPE];
     let mut shelf = shelf_of(rt.alloc(), &log)?;
     let damage = "damage segment 00000000 offset 123 kind 3 BadType";
-    let ranges = (1, "0 0 3600000\n", damage);
-    assert_block_run(&rt, "ranges", &mut shelf, RANGES, ranges)?;
+    assert_ranges(&rt, &mut shelf, (1, "0 0 3600000\n", damage))?;
     for hour in [0, 1, -1, 2_562_047_788_015, i64::MAX] {
         assert_not_cut(&rt, &mut shelf, hour, 1, damage)?;
     }
     shelf.put_dir("out/01ARZ3NDEKTSV4RRFFQ69G5FAV")?;
-    assert_block_run(&rt, "taken", &mut shelf, cut(0), (1, "", damage))?;
+    let request = cut(0, ANY);
+    assert_block_run(&rt, "taken", &mut shelf, request, (1, "", damage))?;
     Ok(())
 }
 
@@ -267,8 +304,7 @@ fn no_log_to_cut(rt: HostRuntime) -> Result<(), StoreFault> {
     let mut shelf = Shelf::new(rt.alloc())?;
     shelf.put_dir("out")?;
     assert_not_cut(&rt, &mut shelf, i64::MAX, 3, "cannot read log")?;
-    let want = (3, "", "cannot read log");
-    assert_block_run(&rt, "ranges", &mut shelf, RANGES, want)?;
+    assert_ranges(&rt, &mut shelf, (3, "", "cannot read log"))?;
     Ok(())
 }
 
@@ -295,24 +331,28 @@ const CALLS: [(u64, &str); 18] = [
     (20, "01ARZ3NDEKTSV4RRFFQ69G5FAV"),
 ];
 
-// Cuts the hour 0 of three series where a call fails. The block's folder is then not there, but where none failed it is whole.
-fn assert_failing_cut<R: Abort + Threads + Sync + AllocGlobal>(
+// Cuts the hour 0 of three series where a call fails, with each of the options. The block's folder is then not there, but where none
+// failed it is whole.
+fn assert_failing_cut<R: Abort + Threads + Wait + Sync + AllocGlobal>(
     rt: &R,
     call: u64,
     fault: StoreFault,
     want: (u8, &str, &str),
 ) -> Result<(), StoreFault> {
-    let mut shelf = shelf_of(rt.alloc(), &[THREE_SERIES, SAMPLES_OF_THREE_SERIES])?;
-    shelf.fail(call, fault)?;
-    assert_block_run(rt, want.2, &mut shelf, cut(0), want)?;
-    // no call fails from here on
-    shelf.fail(0, fault)?;
     let standing = match call {
         0..=4 => "",
         5..=20 => " 01ARZ3NDEKTSV4RRFFQ69G5FAV.tmp",
         _ => " 01ARZ3NDEKTSV4RRFFQ69G5FAV",
     };
-    assert_names(rt, &mut shelf, "out", standing)
+    for options in OPTIONS {
+        let mut shelf = shelf_of(rt.alloc(), &[THREE_SERIES, SAMPLES_OF_THREE_SERIES])?;
+        shelf.fail(call, fault)?;
+        assert_block_run(rt, want.2, &mut shelf, cut(0, options), want)?;
+        // no call fails from here on
+        shelf.fail(0, fault)?;
+        assert_names(rt, &mut shelf, "out", standing)?;
+    }
+    Ok(())
 }
 
 #[test]

@@ -6,6 +6,8 @@ use crate::shelf::Shelf;
 use prom_commands::{Request, StoreFault};
 use std::alloc::Global;
 use std::process::Abort;
+use std::sync::Wait;
+use std::thread::Threads;
 
 // A store with a directory `log` that has these files, and in it the checkpoint 4 with these.
 fn shelf_with_checkpoint(
@@ -44,7 +46,7 @@ fn segment_numbers(rt: HostRuntime) -> Result<(), StoreFault> {
 }
 
 // Carries out both requests over a store whose log is the checkpoint 4 with these bytes in its one file, and a segment past it.
-fn assert_both<R: Abort + AllocGlobal>(
+fn assert_both<R: Abort + Threads + Wait + Sync + AllocGlobal>(
     rt: &R,
     bytes: &[u8],
     counts: &str,
@@ -104,7 +106,7 @@ fn records_of_two_segments(rt: HostRuntime) -> Result<(), StoreFault> {
 
 const GAP: (u8, &str, &str) = (3, "", "gap in segment numbers");
 
-fn assert_gap<R: Abort + AllocGlobal>(
+fn assert_gap<R: Abort + Threads + Wait + Sync + AllocGlobal>(
     rt: &R,
     case: &str,
     files: &[Named<'_>],
@@ -168,7 +170,7 @@ fn directory_names(rt: HostRuntime) -> Result<(), StoreFault> {
 }
 
 // A log whose last two segments are damaged, of which one call fails.
-fn assert_failing<R: Abort + AllocGlobal>(
+fn assert_failing<R: Abort + Threads + Wait + Sync + AllocGlobal>(
     rt: &R,
     case: &str,
     failure: (u64, StoreFault),
@@ -183,7 +185,7 @@ fn assert_failing<R: Abort + AllocGlobal>(
     let first = [("00000000", RECORD_OF_NO_BYTES)];
     let mut shelf = shelf_with_checkpoint(rt.alloc(), &segments, &first)?;
     shelf.fail(failure.0, failure.1)?;
-    assert_run(rt, case, &mut shelf, RECORDS, want)?;
+    assert_one_run(rt, case, &mut shelf, RECORDS, want)?;
     same(rt, case, shelf.calls(), Ok(calls));
     Ok(())
 }
@@ -216,7 +218,8 @@ fn each_call_fails(rt: HostRuntime) -> Result<(), StoreFault> {
 #[test]
 fn no_such_directory(rt: HostRuntime) -> Result<(), StoreFault> {
     for (dir, text) in [("nowhere", "cannot read nowhere"), ("", "cannot read ")] {
-        let request = Request::Replay { dir };
+        let options = ANY;
+        let request = Request::Replay { dir, options };
         assert_files(&rt, dir, &[], request, (3, "", text))?;
     }
     Ok(())

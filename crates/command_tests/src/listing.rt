@@ -4,15 +4,21 @@ use crate::fragments::*;
 use crate::runs::*;
 use prom_commands::{Request, StoreFault};
 use std::process::Abort;
+use std::sync::Wait;
+use std::thread::Threads;
 
 // Lists the series of one segment that have this label, or all.
-fn assert_series<R: Abort + AllocGlobal>(
+fn assert_series<R: Abort + Threads + Wait + Sync + AllocGlobal>(
     rt: &R,
     bytes: &[u8],
     pair: Option<&str>,
     want: (u8, &str, &str),
 ) -> Result<(), StoreFault> {
-    let request = Request::Series { dir: "log", pair };
+    let request = Request::Series {
+        dir: "log",
+        pair,
+        options: ANY,
+    };
     let case = pair.unwrap_or("all");
     assert_files(rt, case, &[("00000000", bytes)], request, want)
 }
@@ -73,7 +79,11 @@ fn wrong_pairs(rt: HostRuntime) -> Result<(), StoreFault> {
     let mut shelf = shelf_with(rt.alloc(), &[("00000000", THREE_SERIES)])?;
     for word in NO_LABELS {
         let pair = Some(word);
-        let request = Request::Series { dir: "log", pair };
+        let request = Request::Series {
+            dir: "log",
+            pair,
+            options: ANY,
+        };
         let want = (2, "", "pair must be NAME=VALUE");
         assert_run(&rt, word, &mut shelf, request, want)?;
     }

@@ -2,20 +2,52 @@
 
 use crate::shelf::Shelf;
 use block_commands::{BlockRequest, carry_out_block};
+use head_replay::Options;
 use live_commands::{AppendRequest, carry_out_append};
 use prom_commands::{Answer, Request, Store, StoreFault, carry_out};
 use std::alloc::{AllocError, Global};
 use std::fmt::Debug;
 use std::process::Abort;
+use std::sync::Wait;
 use std::thread::Threads;
 
-pub const REPLAY: Request<'static> = Request::Replay { dir: "log" };
+/// How logs are replayed. What is found does not depend on it.
+pub const OPTIONS: [Options; 4] = [
+    Options {
+        workers: 1,
+        round_pages: 256,
+    },
+    Options {
+        workers: 2,
+        round_pages: 1,
+    },
+    Options {
+        workers: 7,
+        round_pages: 2,
+    },
+    Options {
+        workers: 64,
+        round_pages: 65_536,
+    },
+];
+
+/// How a log is replayed where that is of no matter.
+pub const ANY: Options = Options {
+    workers: 4,
+    round_pages: 256,
+};
+
+pub const REPLAY: Request<'static> = Request::Replay {
+    dir: "log",
+    options: ANY,
+};
 
 pub const RECORDS: Request<'static> = Request::Records { dir: "log" };
 
 pub const SERIES: Request<'static> = Request::Series {
     dir: "log",
     pair: None,
+    options: ANY,
 };
 
 /// A file's name and its bytes.
@@ -110,20 +142,43 @@ fn assert_answer<R: Abort + AllocGlobal>(
     Ok(())
 }
 
-/// Carries out a request, which is to leave this status, print this and say this.
-pub fn assert_run<R: Abort + AllocGlobal>(
+// The request with these options.
+fn replayed_by(request: Request<'_>, options: Options) -> Request<'_> {
+    match request {
+        Request::Replay { dir, .. } => Request::Replay { dir, options },
+        Request::Records { dir } => Request::Records { dir },
+        Request::Series { dir, pair, .. } => Request::Series { dir, pair, options },
+    }
+}
+
+/// Carries out a request once, which is to leave this status, print this and say this.
+pub fn assert_one_run<R: Abort + Threads + Wait + Sync + AllocGlobal>(
     rt: &R,
     case: &str,
     shelf: &mut Shelf,
     request: Request<'_>,
     want: (u8, &str, &str),
 ) -> Result<(), AllocError> {
-    let answer = carry_out(rt.alloc(), shelf, request);
+    let answer = carry_out(rt, rt.alloc(), shelf, request);
     assert_answer(rt, case, &answer, want)
 }
 
+/// Carries out a request with each of the options, which is to leave this status, print this and say this each time.
+pub fn assert_run<R: Abort + Threads + Wait + Sync + AllocGlobal>(
+    rt: &R,
+    case: &str,
+    shelf: &mut Shelf,
+    request: Request<'_>,
+    want: (u8, &str, &str),
+) -> Result<(), AllocError> {
+    for options in OPTIONS {
+        assert_one_run(rt, case, shelf, replayed_by(request, options), want)?;
+    }
+    Ok(())
+}
+
 /// Carries out a request about blocks, which is to leave this status, print this and say this.
-pub fn assert_block_run<R: Abort + Threads + Sync + AllocGlobal>(
+pub fn assert_block_run<R: Abort + Threads + Wait + Sync + AllocGlobal>(
     rt: &R,
     case: &str,
     shelf: &mut Shelf,
@@ -135,14 +190,14 @@ pub fn assert_block_run<R: Abort + Threads + Sync + AllocGlobal>(
 }
 
 /// Appends rows, which is to leave this status, print this and say this.
-pub fn assert_append_run<R: Abort + AllocGlobal>(
+pub fn assert_append_run<R: Abort + Threads + Wait + Sync + AllocGlobal>(
     rt: &R,
     case: &str,
     shelf: &mut Shelf,
     request: AppendRequest<'_>,
     want: (u8, &str, &str),
 ) -> Result<(), AllocError> {
-    let answer = carry_out_append(rt.alloc(), shelf, request);
+    let answer = carry_out_append(rt, rt.alloc(), shelf, request);
     assert_answer(rt, case, &answer, want)
 }
 
@@ -156,7 +211,7 @@ pub fn names<S: Store>(alloc: Global, store: &mut S, dir: &str) -> Result<String
 }
 
 /// Carries out a request over the files of a directory.
-pub fn assert_files<R: Abort + AllocGlobal>(
+pub fn assert_files<R: Abort + Threads + Wait + Sync + AllocGlobal>(
     rt: &R,
     case: &str,
     files: &[Named<'_>],
@@ -169,7 +224,7 @@ pub fn assert_files<R: Abort + AllocGlobal>(
 }
 
 /// Replays the files of a directory, where it is to print these counts, as `series 1, accepted 2`.
-pub fn assert_counts<R: Abort + AllocGlobal>(
+pub fn assert_counts<R: Abort + Threads + Wait + Sync + AllocGlobal>(
     rt: &R,
     case: &str,
     files: &[Named<'_>],
@@ -180,7 +235,7 @@ pub fn assert_counts<R: Abort + AllocGlobal>(
 }
 
 /// Replays a store, where it is to print these counts and this damage, or `none`.
-pub fn assert_replay_of<R: Abort + AllocGlobal>(
+pub fn assert_replay_of<R: Abort + Threads + Wait + Sync + AllocGlobal>(
     rt: &R,
     case: &str,
     shelf: &mut Shelf,
@@ -193,7 +248,7 @@ pub fn assert_replay_of<R: Abort + AllocGlobal>(
 }
 
 /// Replays one segment, where it is to print these counts and this damage of it: `offset O kind N NAME`.
-pub fn assert_damage<R: Abort + AllocGlobal>(
+pub fn assert_damage<R: Abort + Threads + Wait + Sync + AllocGlobal>(
     rt: &R,
     case: &str,
     bytes: &[u8],
@@ -215,7 +270,7 @@ pub fn joined(alloc: Global, parts: &[&[u8]]) -> Result<Vec<u8>, AllocError> {
 }
 
 /// Replays one segment of these fragments.
-pub fn assert_replay<R: Abort + AllocGlobal>(
+pub fn assert_replay<R: Abort + Threads + Wait + Sync + AllocGlobal>(
     rt: &R,
     fragments: &[&[u8]],
     counts: &str,
@@ -225,7 +280,7 @@ pub fn assert_replay<R: Abort + AllocGlobal>(
 }
 
 /// Replays one segment of these fragments, where it is to end in this damage.
-pub fn assert_damaged<R: Abort + AllocGlobal>(
+pub fn assert_damaged<R: Abort + Threads + Wait + Sync + AllocGlobal>(
     rt: &R,
     case: &str,
     fragments: &[&[u8]],

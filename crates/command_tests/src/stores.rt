@@ -174,6 +174,9 @@ impl Read for Faulty {
     }
 }
 
+// How many bytes a reader says that it has. It has four.
+const LENGTHS: [u64; 6] = [0, 1, 3, 4, 5, 100_000];
+
 // The read to fail, how, and what becomes of reading the four bytes.
 const FAILING: [(u64, ErrorKind, Result<&[u8], StoreFault>); 6] = [
     (0, ErrorKind::Other, Ok(b"abcd")),
@@ -187,28 +190,39 @@ const FAILING: [(u64, ErrorKind, Result<&[u8], StoreFault>); 6] = [
 #[test]
 fn failing_read(rt: HostRuntime) {
     for (fails_at, kind, wanted) in FAILING {
-        let mut reader = Faulty {
-            rest: b"abcd",
-            reads: 0,
-            fails_at,
-            kind,
-        };
-        let found = read_whole(rt.alloc(), &mut reader);
-        let told = match &found {
-            Ok(bytes) => Ok(bytes.as_slice()),
-            Err(fault) => Err(*fault),
-        };
-        same(&rt, fails_at, told, wanted);
+        for length in LENGTHS {
+            let mut reader = Faulty {
+                rest: b"abcd",
+                reads: 0,
+                fails_at,
+                kind,
+            };
+            let found = read_whole(rt.alloc(), &mut reader, length);
+            let told = match &found {
+                Ok(bytes) => Ok(bytes.as_slice()),
+                Err(fault) => Err(*fault),
+            };
+            same(&rt, (fails_at, length), told, wanted);
+        }
     }
 }
 
-// Read by more than one call, each of which fills the buffer but the last.
+// Read by more than one call, whatever length is told.
 #[test]
 fn long_read(rt: HostRuntime) -> Result<(), StoreFault> {
     let bytes: Vec<u8> = (0..200_000u32)
         .map(|i| (i % 251) as u8)
         .collect(rt.alloc())?;
-    let read = read_whole(rt.alloc(), &mut bytes.as_slice())?;
-    assert!(rt; read.as_slice() == bytes.as_slice());
+    for length in [0, 1, 65_536, 199_999, 200_000, 200_001, 1_000_000] {
+        let read = read_whole(rt.alloc(), &mut bytes.as_slice(), length)?;
+        assert!(rt; read.as_slice() == bytes.as_slice(), "at {length}");
+    }
     Ok(())
+}
+
+// Where the length that is told is more than can be had, memory is out.
+#[test]
+fn length_past_memory(rt: HostRuntime) {
+    let read = read_whole(rt.alloc(), &mut b"abcd".as_slice(), u64::MAX);
+    same(&rt, "length", read.err(), Some(StoreFault::OutOfMemory));
 }

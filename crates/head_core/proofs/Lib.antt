@@ -13,5 +13,9 @@ pub mod Assembling
 pub mod OneContent
 pub mod RoomLemmas
 pub mod Slots
+pub mod Applied
+pub mod AppliedValues
+pub mod AppliedOutcomes
+mod AppliedWorked
 pub mod CountRoom
 pub mod DraftLemmas

@@ -85,7 +85,7 @@ place_at (m ∷ ls) (suc s) l d e =
     ∙ ap Some (omega arith)
 
 -- what stands at the first place of an element is it
-there : (ls : List Labels) (m : Labels) (s : ℕ) → place (same_labels m) ls ≡ Some s → slice_get ls s ≡ Some m
+pub there : (ls : List Labels) (m : Labels) (s : ℕ) → place (same_labels m) ls ≡ Some s → slice_get ls s ≡ Some m
 there [] m s e = cc
 there (x ∷ ls) m s e = by (same_labels m x) refl e (there ls m) where
   by : (b : Bool) → same_labels m x ≡ b → (if b then Some 0 else option_map (λ n. n + 1) (place (same_labels m) ls)) ≡ Some s → ((n : ℕ) → place (same_labels m) ls ≡ Some n → slice_get ls n ≡ Some m) → slice_get (x ∷ ls) s ≡ Some m

@@ -4,6 +4,7 @@ pub mod Content
 pub mod Steps
 pub mod Resolved
 pub mod Resolving
+pub mod Applied
 pub mod Heads
 pub mod Room
 pub mod Draft

@@ -139,10 +139,11 @@ impl Counts {
         Ok(())
     }
 
-    // One more of what became of an item.
-    pub(crate) fn add_outcome(&mut self, outcome: Outcome) -> Result<(), HeadFault>
+    /// One more of what became of an item of a series. `Full` where there are 2^64 - 1; then nothing is changed.
+    pub fn add_outcome(&mut self, outcome: Outcome) -> Result<(), HeadFault>
         ensures more { OnOk result (self.new ≡ with_fate (fate_of outcome) self.old) }
         ensures full { result ≡ Err HeadFault.Full → count_of_fate (fate_of outcome) self.old ≡ count_limit }
+        ensures refused { OnErr result (self.new ≡ self.old) }
         ensures fault { result ≡ Err HeadFault.Memory → ⊥ }
         ensures sound { result ≡ Err HeadFault.Failed → ⊥ }
     {

@@ -1,19 +1,22 @@
 //! Laws of the definitions.
 
-ghost use Rattle.std.specs.Prelude.{◌≡◌, ℕ, List, Option, Some, filter, map, nat_eq, slice_get};
+ghost use Rattle.std.specs.Prelude.{◌≡◌, ◌++◌, ℕ, ℤ, List, None, Option, Some, filter, map, nat_eq, slice_get};
 ghost use Rattle.wal_record.specs.declared.record.WalRecord.{WalRecord as LogRecord};
-ghost use Rattle.wal_record.specs.Entries.{Entry};
+ghost use Rattle.wal_record.specs.Entries.{Entry, entries_of};
 ghost use Rattle.wal_record.specs.Labels.{same_labels};
 ghost use Rattle.head_column.specs.declared.items.Item.{Item};
+ghost use Rattle.head_column.specs.Histories.{history_after, history_outcome, no_history};
+ghost use Rattle.head_column.specs.Tallies.{latest_after, latest_outcome};
 ghost use Rattle.head_series.specs.Bindings.{series_of};
 ghost use Rattle.head_series.specs.Table.{Labels};
 ghost use Rattle.head_series.specs.Texts.{place};
 ghost use Rattle.head_core.specs.Owners.{bindings};
-ghost use Rattle.head_core.specs.Counts.{items_of, known};
-ghost use Rattle.head_core.specs.Content.{AreAlike, Content, IsContentOf};
-ghost use Rattle.head_core.specs.Resolved.{resolved};
+ghost use Rattle.head_core.specs.Counts.{counts_of, items_of, known};
+ghost use Rattle.head_core.specs.Content.{AreAlike, AreHistoriesOf, Content, IsContentOf, IsWithinLimits};
+ghost use Rattle.head_core.specs.Resolved.{resolved, IsResolvable};
+ghost use Rattle.head_core.specs.Applied.{AreCountsOfOutcomes, new_slots, outcomes_after, values_after};
 
-use head_column::columns_follow_items;
+use head_column::{columns_follow_items, tallies_follow_items};
 use head_series::slot_is_place;
 
 /// Records have just one content, as far as any view of a head goes: so the head that `replay_serial` gives, and every head to which
@@ -31,4 +34,22 @@ pub fn one_content()
 pub fn slots_stay()
     ensures places { (es : List Entry) → map {B = Option ℕ × Item} (λ k. (Some k.0, k.1)) (resolved es) ≡ map {B = Option ℕ × Item} (λ k. (place (same_labels k.0) (series_of (bindings es)), k.1)) (known es) }
     ensures items { (es : List Entry) (s : ℕ) (l : Labels) → slice_get (series_of (bindings es)) s ≡ Some l → map (λ k. k.1) (filter (λ k. nat_eq s k.0) (resolved es)) ≡ items_of l es }
+{}
+
+/// Items that are applied in order to a slot for each series, which begins as new, make of each series what the log says, and what
+/// becomes of them is what the log's counts tell; and so it is where only the greatest time is kept of a series.
+pub fn items_make_series()
+    ensures histories { (es : List Entry) → AreHistoriesOf es (series_of (bindings es)) (map (λ p. p.1) (values_after history_after (new_slots no_history es) (resolved es))) }
+    ensures outcomes { (rs : List LogRecord) → AreCountsOfOutcomes (outcomes_after history_after history_outcome (new_slots no_history (entries_of rs)) (resolved (entries_of rs))) (counts_of rs) }
+    ensures tallied { (rs : List LogRecord) → AreCountsOfOutcomes (outcomes_after latest_after latest_outcome (new_slots {V = Option ℤ} None (entries_of rs)) (resolved (entries_of rs))) (counts_of rs) }
+{
+    // the laws that it rests on, for the proof
+    columns_follow_items();
+    tallies_follow_items();
+}
+
+/// What is within the limits of a head is so at each of its records; and what is within those of a head is within those of a resolver.
+pub fn limits_hold_before()
+    ensures front { (rs more : List LogRecord) → IsWithinLimits (rs ++ more) → IsWithinLimits rs }
+    ensures resolvable { (rs : List LogRecord) → IsWithinLimits rs → IsResolvable rs }
 {}

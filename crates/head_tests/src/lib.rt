@@ -27,6 +27,8 @@ mod chunks;
 #[cfg(test)]
 mod columns;
 #[cfg(test)]
+mod deals;
+#[cfg(test)]
 mod heads;
 #[cfg(test)]
 mod hours;

@@ -1,5 +1,7 @@
 //! The store of real files.
 
+ghost use Rattle.std.specs.Prelude.{◌≡◌, IfOk, IfSome};
+
 use crate::store::{Store, StoreFault};
 use std::alloc::Global;
 use std::fs::{DirEntry, File, OpenFile};
@@ -19,37 +21,53 @@ impl<'a, R> Disk<'a, R> {
     }
 }
 
-// How many bytes are asked for at a time.
-const READ_SIZE: usize = 65_536;
-
 /// How many times a file is read from before it is given up, so that no device is read for ever.
 const MOST_READS: u64 = 4_294_967_296;
 
-// Reads once, and puts what was read behind the bytes. Whether the end has come.
-fn read_more(
-    reader: &mut impl Read,
-    chunk: &mut [u8],
-    bytes: &mut Vec<u8>,
-) -> Result<bool, StoreFault> {
-    match reader.read(chunk) {
-        Ok(0) => return Ok(true),
-        Ok(count) => bytes.extend_from_slice(&chunk[..count])?,
-        Err(error) if error.kind() == ErrorKind::Interrupted => {}
-        Err(error) => return Err(StoreFault::from(error)),
-    }
-    Ok(false)
+// A reader that gives no more once it was read from so many times.
+#[derive(Drop)]
+struct Limited<'a, R> {
+    reader: &'a mut R,
+    reads_left: u64,
 }
 
-/// All that a reader has left. It is refused where the end has not come within `MOST_READS` reads.
-pub fn read_whole(alloc: Global, reader: &mut impl Read) -> Result<Vec<u8>, StoreFault> {
-    let mut chunk = vec![in alloc; 0; READ_SIZE]?;
-    let mut bytes = Vec::new(alloc);
-    for _ in 0..MOST_READS {
-        if read_more(reader, &mut chunk, &mut bytes)? {
-            return Ok(bytes);
+impl<R: Read> Read for Limited<'_, R> {
+    ghost remaining = { λ l. R.remaining l.reader.now };
+
+    fn read(&mut self, buf: &mut [u8]) -> io::Result<usize> {
+        if self.reads_left == 0 {
+            return Err(io::Error::from(ErrorKind::TimedOut));
         }
+        self.reads_left -= 1;
+        self.reader.read(buf)
     }
-    Err(StoreFault::Refused)
+}
+
+/// All that a reader has left. Room is made once for as many bytes as it says that it has, though it may have fewer or more. It is
+/// refused where the end has not come within `MOST_READS` reads.
+pub fn read_whole<R: Read>(
+    alloc: Global,
+    reader: &mut R,
+    length: u64,
+) -> Result<Vec<u8>, StoreFault>
+    ensures { IfOk result (λ bytes. IfSome (R.remaining reader.old) (λ rest. bytes.items ≡ rest)) }
+{
+    // with one byte more than it has, so that the end is met in the same room
+    let mut bytes = Vec::with_capacity(alloc, (length as usize).saturating_add(1))?;
+    let mut limited = Limited {
+        reader,
+        reads_left: MOST_READS,
+    };
+    limited.read_to_end(&mut bytes)?;
+    Ok(bytes)
+}
+
+// How many bytes a file says that it has: 0 where it does not say.
+fn length_of(file: &impl OpenFile) -> u64 {
+    match file.metadata() {
+        Ok(metadata) => metadata.len(),
+        Err(_) => 0,
+    }
 }
 
 fn name_of<R: Files + Drop>(
@@ -72,7 +90,9 @@ impl<R: Files + AllocGlobal + Clone + Drop> Store for Disk<'_, R> {
     }
 
     fn read(&mut self, path: &str) -> Result<Vec<u8>, StoreFault> {
-        read_whole(self.rt.alloc(), &mut File::open(self.rt, path)?)
+        let mut file = File::open(self.rt, path)?;
+        let length = length_of(&file);
+        read_whole(self.rt.alloc(), &mut file, length)
     }
 
     fn create_new(&mut self, path: &str) -> Result<R::File, StoreFault> {

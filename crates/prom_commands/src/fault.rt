@@ -3,13 +3,13 @@
 ghost use Rattle.std.specs.Prelude.{◌≡◌, ◌↔◌};
 ghost use Rattle.wal_log.specs.declared.plan.PlanFault.TheVariants as plan;
 ghost use Rattle.wal_log.specs.declared.input.InputFault.TheVariants as input;
-ghost use Rattle.head_core.specs.declared.replay.ReplayFault.TheVariants as replay;
-ghost use Rattle.prom_commands.specs.declared.fault.Fault.TheVariants.{OutOfMemory, TooLarge};
+ghost use Rattle.head_replay.specs.declared.fault.ReplayFault.TheVariants as replay;
+ghost use Rattle.prom_commands.specs.declared.fault.Fault.TheVariants.{Full, OutOfMemory, TooLarge, Workers};
 
 use crate::report::DamageLine;
 use crate::store::StoreFault;
 use block_index::ReadFault;
-use head_core::ReplayFault;
+use head_replay::ReplayFault;
 use std::alloc::{AllocError, AllocFailed, Global};
 use std::process::ExitCode;
 use thiserror::Error;
@@ -26,7 +26,8 @@ pub enum Status {
     Usage = 2,
     /// Input or output failed, or what was asked cannot be done.
     Refused = 3,
-    OutOfMemory = 4,
+    /// Memory ran out, or a thread could not start.
+    Exhausted = 4,
 }
 
 impl From<Status> for ExitCode {
@@ -97,6 +98,8 @@ pub enum Fault {
     SegmentFull,
     #[error("out of memory")]
     OutOfMemory,
+    #[error("a thread could not start")]
+    Workers,
 }
 
 impl Fault {
@@ -138,7 +141,7 @@ impl Fault {
             | Fault::Edge
             | Fault::NotFull
             | Fault::NoSamples => Status::Refused,
-            Fault::OutOfMemory => Status::OutOfMemory,
+            Fault::OutOfMemory | Fault::Workers => Status::Exhausted,
         }
     }
 }
@@ -155,12 +158,16 @@ impl From<PlanFault> for Fault {
 }
 
 impl From<ReplayFault> for Fault {
-    ghost from_gives = { λ e f. (f ≡ OutOfMemory) ↔ (e ≡ replay.Memory) };
+    ghost from_gives = { λ e f. ((f ≡ Full) ↔ (e ≡ replay.Full)) × ((f ≡ OutOfMemory) ↔ (e ≡ replay.Memory)) × (e ≡ replay.Workers → f ≡ Workers) };
 
     fn from(fault: ReplayFault) -> Fault {
         match fault {
             ReplayFault::Full => Fault::Full,
             ReplayFault::Memory => Fault::OutOfMemory,
+            // the command line takes no number of workers but 1 to 64, so that the first two do not come
+            ReplayFault::NoWorkers | ReplayFault::TooManyWorkers | ReplayFault::Workers => {
+                Fault::Workers
+            }
         }
     }
 }

@@ -31,7 +31,7 @@ impl LineFault {
         match self {
             LineFault::Usage(_) | LineFault::NotUtf8 => Status::Usage,
             LineFault::CannotPrint => Status::Refused,
-            LineFault::OutOfMemory => Status::OutOfMemory,
+            LineFault::OutOfMemory => Status::Exhausted,
         }
     }
 }

@@ -14,6 +14,7 @@ use std::env;
 use std::io::ErrorKind;
 use std::process::ExitCode;
 use std::rt::{Env, Files};
+use std::sync::Wait;
 use std::thread::Threads;
 
 // The words of the command line, the program's own name first.
@@ -52,7 +53,7 @@ fn show<R: Print + Eprint>(rt: &R, answer: &Answer) -> Status {
 }
 
 // Runs the program on real files.
-fn run_here<R: Env + Files + AllocGlobal + Threads + Sync + Clone + Drop>(
+fn run_here<R: Env + Files + AllocGlobal + Threads + Wait + Sync + Clone + Drop>(
     rt: &R,
 ) -> Result<Answer, LineFault> {
     let words = arguments(rt)?;

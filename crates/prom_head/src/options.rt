@@ -1,8 +1,9 @@
 //! The command line.
 
-use block_commands::BlockRequest;
+use block_commands::{BlockRequest, CutRequest};
 use clap::error::ErrorKind;
 use clap::{Arg, ArgMatches, Command, Error, value_parser};
+use head_replay::Options;
 use live_commands::AppendRequest;
 use prom_commands::Request;
 use std::alloc::{AllocError, Global};
@@ -26,6 +27,32 @@ fn dir<'a>(alloc: Global) -> Arg<'a> {
         .value_name("DIR")
         .help("The directory of the log: a server's `wal`")
         .required(true)
+}
+
+fn workers<'a>(alloc: Global) -> Arg<'a> {
+    Arg::new(alloc, "workers")
+        .long("workers")
+        .value_name("N")
+        .help("How many workers replay the log, 1 to 64")
+        .value_parser(value_parser!(u8).range(1..=64))
+        .default_value("4")
+}
+
+fn round_pages<'a>(alloc: Global) -> Arg<'a> {
+    Arg::new(alloc, "round-pages")
+        .long("round-pages")
+        .value_name("P")
+        .help("How many pages of the log are taken in a round")
+        .value_parser(value_parser!(u32).range(1..=65_536))
+        .default_value("256")
+}
+
+// A command that replays the log, with the options of how.
+fn replaying<'a>(
+    alloc: Global,
+    command: Result<Command<'a>, AllocError>,
+) -> Result<Command<'a>, AllocError> {
+    command?.arg(workers(alloc))?.arg(round_pages(alloc))
 }
 
 fn replay<'a>(alloc: Global) -> Result<Command<'a>, AllocError> {
@@ -129,19 +156,28 @@ fn command<'a>(alloc: Global) -> Result<Command<'a>, AllocError> {
         .about("Reads a write-ahead log of samples, cuts it into blocks, and goes on writing it")
         .subcommand_required(true)
         .disable_help_subcommand(true);
-    let command = with(command, replay(alloc))?;
+    let command = with(command, replaying(alloc, replay(alloc)))?;
     let command = with(command, records(alloc))?;
-    let command = with(command, series(alloc))?;
-    let command = with(command, ranges(alloc))?;
-    let command = with(command, cut(alloc))?;
+    let command = with(command, replaying(alloc, series(alloc)))?;
+    let command = with(command, replaying(alloc, ranges(alloc)))?;
+    let command = with(command, replaying(alloc, cut(alloc)))?;
     let command = with(command, block(alloc))?;
-    with(command, append(alloc))
+    with(command, replaying(alloc, append(alloc)))
+}
+
+// How the log is to be replayed.
+fn options(of: &ArgMatches<'_>) -> Option<Options> {
+    Some(Options {
+        workers: usize::from(of.get_one::<u8>("workers")?),
+        round_pages: of.get_one::<u32>("round-pages")? as usize,
+    })
 }
 
 fn of_log<'a>(matches: &ArgMatches<'a>) -> Option<Request<'a>> {
     match matches.subcommand()? {
         ("replay", of) => Some(Request::Replay {
             dir: of.get_str("dir")?,
+            options: options(of)?,
         }),
         ("records", of) => Some(Request::Records {
             dir: of.get_str("dir")?,
@@ -149,6 +185,7 @@ fn of_log<'a>(matches: &ArgMatches<'a>) -> Option<Request<'a>> {
         ("series", of) => Some(Request::Series {
             dir: of.get_str("dir")?,
             pair: of.get_str("pair"),
+            options: options(of)?,
         }),
         _ => None,
     }
@@ -158,13 +195,15 @@ fn of_blocks<'a>(matches: &ArgMatches<'a>) -> Option<BlockRequest<'a>> {
     match matches.subcommand()? {
         ("ranges", of) => Some(BlockRequest::Ranges {
             dir: of.get_str("dir")?,
+            options: options(of)?,
         }),
-        ("cut", of) => Some(BlockRequest::Cut {
+        ("cut", of) => Some(BlockRequest::Cut(CutRequest {
             dir: of.get_str("dir")?,
             hour: of.get_one("hour")?,
             ulid: of.get_str("ulid")?,
             out: of.get_str("out")?,
-        }),
+            options: options(of)?,
+        })),
         ("block", of) => Some(BlockRequest::Block {
             path: of.get_str("path")?,
         }),
@@ -177,6 +216,7 @@ fn of_append<'a>(matches: &ArgMatches<'a>) -> Option<AppendRequest<'a>> {
         ("append", of) => Some(AppendRequest {
             dir: of.get_str("dir")?,
             rows: of.get_str("rows")?,
+            options: options(of)?,
         }),
         _ => None,
     }

@@ -5,19 +5,20 @@ use crate::options::{Asked, parse};
 use block_commands::carry_out_block;
 use live_commands::carry_out_append;
 use prom_commands::{Answer, Status, Store, carry_out};
+use std::sync::Wait;
 use std::thread::Threads;
 
 /// Runs the program on these words, its own name first. A store is asked for nothing where the words are refused.
-pub fn run<R: AllocGlobal + Threads + Sync, S: Store>(
+pub fn run<R: AllocGlobal + Threads + Wait + Sync, S: Store>(
     rt: &R,
     store: &mut S,
     words: &[String],
 ) -> Result<Answer, LineFault> {
     let alloc = rt.alloc();
     match parse(alloc, words) {
-        Ok(Asked::OfLog(request)) => Ok(carry_out(alloc, store, request)),
+        Ok(Asked::OfLog(request)) => Ok(carry_out(rt, alloc, store, request)),
         Ok(Asked::OfBlocks(request)) => Ok(carry_out_block(rt, alloc, store, request)),
-        Ok(Asked::Append(request)) => Ok(carry_out_append(alloc, store, request)),
+        Ok(Asked::Append(request)) => Ok(carry_out_append(rt, alloc, store, request)),
         Err(error) if error.use_stderr() => Err(LineFault::from(error)),
         Err(help) => Ok(Answer::done(help.to_string(alloc)?, Status::Done)),
     }

@@ -1,12 +1,17 @@
 //! The words of the command line.
 
 use crate::fault::LineFault;
+use crate::options::{Asked, parse};
 use crate::program::run;
-use prom_commands::{Answer, Store, StoreFault};
+use block_commands::{BlockRequest, CutRequest};
+use head_replay::Options;
+use live_commands::AppendRequest;
+use prom_commands::{Answer, Request, Store, StoreFault};
 use std::alloc::{AllocError, Global};
 use std::fmt::Debug;
 use std::fs::File;
 use std::process::Abort;
+use std::sync::Wait;
 use std::thread::Threads;
 
 // A store of which nothing is to be asked. It notes whether anything was.
@@ -94,7 +99,7 @@ fn told(alloc: Global, ending: &Result<Answer, LineFault>) -> Result<(u8, String
 }
 
 // Runs the program on a line, which asks nothing of the store: the status, and what is printed or said.
-fn run_line<R: Abort + Threads + Sync + AllocGlobal>(
+fn run_line<R: Abort + Threads + Wait + Sync + AllocGlobal>(
     rt: &R,
     line: &str,
 ) -> Result<(u8, String), AllocError> {
@@ -106,7 +111,7 @@ fn run_line<R: Abort + Threads + Sync + AllocGlobal>(
 }
 
 // Command lines that are refused, and what is said of each first.
-const WRONG_LINES: [(&str, &str); 23] = [
+const WRONG_LINES: [(&str, &str); 33] = [
     (
         "prom_head",
         "error: 'prom_head' requires a subcommand but one was not provided\n",
@@ -153,8 +158,48 @@ const WRONG_LINES: [(&str, &str); 23] = [
         "error: unexpected argument 'more' found\n",
     ),
     (
-        "prom_head replay log --workers=4",
+        "prom_head records log --workers=4",
         "error: unexpected argument '--workers' found\n",
+    ),
+    (
+        "prom_head block path --workers=4",
+        "error: unexpected argument '--workers' found\n",
+    ),
+    (
+        "prom_head replay log --workers",
+        "error: a value is required for '--workers <N>' but none was supplied\n",
+    ),
+    (
+        "prom_head replay log --workers=1 --workers=1",
+        "error: the argument '--workers <N>' cannot be used multiple times\n",
+    ),
+    (
+        "prom_head replay log --workers=0",
+        "error: invalid value '0' for '--workers <N>': 0 is not in 1..=64\n",
+    ),
+    (
+        "prom_head series log --workers=65",
+        "error: invalid value '65' for '--workers <N>': 65 is not in 1..=64\n",
+    ),
+    (
+        "prom_head ranges log --workers=x",
+        "error: invalid value 'x' for '--workers <N>': invalid digit found in string\n",
+    ),
+    (
+        "prom_head append log --rows=rows --workers=-1",
+        "error: invalid value '-1' for '--workers <N>': -1 is not in 1..=64\n",
+    ),
+    (
+        "prom_head cut log --hour=1 --ulid=01ARZ3NDEKTSV4RRFFQ69G5FAV --out=out --round-pages=0",
+        "error: invalid value '0' for '--round-pages <P>': 0 is not in 1..=65536\n",
+    ),
+    (
+        "prom_head replay log --round-pages=65537",
+        "error: invalid value '65537' for '--round-pages <P>': 65537 is not in 1..=65536\n",
+    ),
+    (
+        "prom_head records log --round-pages=1",
+        "error: unexpected argument '--round-pages' found\n",
     ),
     ("prom_head series log --pair=", "pair must be NAME=VALUE"),
     (
@@ -225,13 +270,15 @@ Options:
 const REPLAY_HELP: &str = "\
 Counts what the log holds
 
-Usage: prom_head replay <DIR>
+Usage: prom_head replay [OPTIONS] <DIR>
 
 Arguments:
   <DIR>  The directory of the log: a server's `wal`
 
 Options:
-  -h, --help  Print help
+      --workers <N>      How many workers replay the log, 1 to 64 [default: 4]
+      --round-pages <P>  How many pages of the log are taken in a round [default: 256]
+  -h, --help             Print help
 ";
 
 const RECORDS_HELP: &str = "\
@@ -256,34 +303,40 @@ Arguments:
 
 Options:
       --pair <NAME=VALUE>  Only the series with this label, spelled as it is printed
+      --workers <N>        How many workers replay the log, 1 to 64 [default: 4]
+      --round-pages <P>    How many pages of the log are taken in a round [default: 256]
   -h, --help               Print help
 ";
 
 const RANGES_HELP: &str = "\
 Lists the hours of the log that can be cut
 
-Usage: prom_head ranges <DIR>
+Usage: prom_head ranges [OPTIONS] <DIR>
 
 Arguments:
   <DIR>  The directory of the log: a server's `wal`
 
 Options:
-  -h, --help  Print help
+      --workers <N>      How many workers replay the log, 1 to 64 [default: 4]
+      --round-pages <P>  How many pages of the log are taken in a round [default: 256]
+  -h, --help             Print help
 ";
 
 const CUT_HELP: &str = "\
 Cuts an hour of the log into a block
 
-Usage: prom_head cut --hour <K> --ulid <U> --out <OUT> <DIR>
+Usage: prom_head cut [OPTIONS] --hour <K> --ulid <U> --out <OUT> <DIR>
 
 Arguments:
   <DIR>  The directory of the log: a server's `wal`
 
 Options:
-      --hour <K>   The hour: it begins at K * 3600000 milliseconds
-      --ulid <U>   The name of the block, a ULID
-      --out <OUT>  The directory in which the block's folder is made
-  -h, --help       Print help
+      --hour <K>         The hour: it begins at K * 3600000 milliseconds
+      --ulid <U>         The name of the block, a ULID
+      --out <OUT>        The directory in which the block's folder is made
+      --workers <N>      How many workers replay the log, 1 to 64 [default: 4]
+      --round-pages <P>  How many pages of the log are taken in a round [default: 256]
+  -h, --help             Print help
 ";
 
 const BLOCK_HELP: &str = "\
@@ -301,14 +354,16 @@ Options:
 const APPEND_HELP: &str = "\
 Appends rows to the log, in a new segment
 
-Usage: prom_head append --rows <FILE> <DIR>
+Usage: prom_head append [OPTIONS] --rows <FILE> <DIR>
 
 Arguments:
   <DIR>  The directory of the log: a server's `wal`
 
 Options:
-      --rows <FILE>  The rows, a line each: TIME VALUE NAME=VALUE ..
-  -h, --help         Print help
+      --rows <FILE>      The rows, a line each: TIME VALUE NAME=VALUE ..
+      --workers <N>      How many workers replay the log, 1 to 64 [default: 4]
+      --round-pages <P>  How many pages of the log are taken in a round [default: 256]
+  -h, --help             Print help
 ";
 
 const HELP_LINES: [(&str, &str); 10] = [
@@ -350,11 +405,94 @@ fn requests(rt: HostRuntime) -> Result<(), AllocError> {
         "prom_head block out/01ARZ3NDEKTSV4RRFFQ69G5FAV",
         "prom_head append log --rows rows",
         "prom_head append --rows= log",
+        "prom_head replay log --workers=1 --round-pages=1",
+        "prom_head series --workers 64 --round-pages 65536 log --pair job=a",
     ] {
         let words = words(rt.alloc(), line)?;
         let mut store = Untouched { was_asked: false };
         let ending = run(&rt, &mut store, &words);
         same(&rt, line, (store.was_asked, ending.is_ok()), (true, true));
+    }
+    Ok(())
+}
+
+const SEVEN: Options = Options {
+    workers: 7,
+    round_pages: 300,
+};
+
+fn replay(workers: usize, round_pages: usize) -> Asked<'static> {
+    Asked::OfLog(Request::Replay {
+        dir: "log",
+        options: Options {
+            workers,
+            round_pages,
+        },
+    })
+}
+
+fn assert_asked<R: Abort + AllocGlobal>(
+    rt: &R,
+    line: &str,
+    wanted: Asked<'_>,
+) -> Result<(), AllocError> {
+    let words = words(rt.alloc(), line)?;
+    same(rt, line, parse(rt.alloc(), &words).ok(), Some(wanted));
+    Ok(())
+}
+
+// How the log is replayed, and how where nothing is said of it.
+#[test]
+fn options_of_replay(rt: HostRuntime) -> Result<(), AllocError> {
+    for (line, workers, round_pages) in [
+        ("prom_head replay log", 4, 256),
+        ("prom_head replay log --workers=1", 1, 256),
+        ("prom_head replay --workers 64 log", 64, 256),
+        ("prom_head replay log --round-pages=1", 4, 1),
+        (
+            "prom_head replay --round-pages 65536 log --workers=007",
+            7,
+            65_536,
+        ),
+    ] {
+        assert_asked(&rt, line, replay(workers, round_pages))?;
+    }
+    Ok(())
+}
+
+#[test]
+fn options_of_each_command(rt: HostRuntime) -> Result<(), AllocError> {
+    let (dir, rows, options) = ("log", "rows", SEVEN);
+    let series = Request::Series {
+        dir,
+        pair: None,
+        options,
+    };
+    let cut = CutRequest {
+        dir,
+        hour: -1,
+        ulid: "01ARZ3NDEKTSV4RRFFQ69G5FAV",
+        out: "out",
+        options,
+    };
+    for (line, wanted) in [
+        ("replay log", replay(7, 300)),
+        ("series log", Asked::OfLog(series)),
+        (
+            "ranges log",
+            Asked::OfBlocks(BlockRequest::Ranges { dir, options }),
+        ),
+        (
+            "cut log --hour=-1 --ulid=01ARZ3NDEKTSV4RRFFQ69G5FAV --out=out",
+            Asked::OfBlocks(BlockRequest::Cut(cut)),
+        ),
+        (
+            "append log --rows=rows",
+            Asked::Append(AppendRequest { dir, rows, options }),
+        ),
+    ] {
+        let line = format!(in rt.alloc(); "prom_head {line} --workers=7 --round-pages=300")?;
+        assert_asked(&rt, &line, wanted)?;
     }
     Ok(())
 }

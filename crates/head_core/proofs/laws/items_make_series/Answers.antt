@@ -1,0 +1,19 @@
+use Rattle.std.proofs.Common.{None, Option, ℤ, ap, ◌∙◌}
+use Rattle.head_column.specs.Histories.{history_after, history_of, history_outcome, no_history}
+use Rattle.head_column.specs.Tallies.{latest_after, latest_outcome}
+use Rattle.head_core.proofs.AppliedOutcomes.{counted}
+use Rattle.head_core.proofs.AppliedValues.{histories_are, latest_is}
+use Rattle.head_core.proofs.laws.items_make_series.Goals as goal
+
+pub returns-clause-histories : goal.returns-clause-histories
+returns-clause-histories c = histories_are c.columns_follow_items.ensures.made
+
+pub returns-clause-outcomes : goal.returns-clause-outcomes
+returns-clause-outcomes c =
+    counted history_after history_outcome no_history
+    (λ items i. c.columns_follow_items.ensures.outcome items (history_of items) i (c.columns_follow_items.ensures.made items))
+
+pub returns-clause-tallied : goal.returns-clause-tallied
+returns-clause-tallied c =
+    counted latest_after latest_outcome None
+    (λ items i. ap (λ (l : Option ℤ). latest_outcome l i) (latest_is c.tallies_follow_items.ensures.start c.tallies_follow_items.ensures.push items) ∙ c.tallies_follow_items.ensures.outcome items i)

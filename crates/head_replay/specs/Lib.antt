@@ -1,0 +1,4 @@
+pub mod Applying
+pub mod Faults
+pub mod Jobs
+pub mod Ranges

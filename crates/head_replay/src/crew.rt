@@ -1,0 +1,211 @@
+//! Workers: each takes what it owns to its end, in a thread of its own.
+
+ghost use Rattle.std.specs.Prelude.{◌≡◌, ◌+◌, ◌^◌, ◌<◌, ◌≤◌, ◌++◌, IfOk, IsOkAnd, OnOk, vec_len};
+ghost use Rattle.std.specs.Thread.{IsSync, IsSend};
+ghost use Rattle.head_replay.specs.Jobs.{AreDone};
+
+use crate::gate::Gate;
+use core::thread::Stack;
+use std::alloc::AllocError;
+use std::snapshot::Snapshot;
+use std::sync::Wait;
+use std::thread;
+use std::thread::{Promise, Threads};
+
+/// What one worker owns, and takes to its end.
+pub(crate) trait Job {
+    /// Of the job before and after.
+    ghost done: { Self → Self → Type 0 };
+
+    /// Passes the gate that stands before such jobs.
+    fn enter<G: Gate>(gate: &G, worker: usize, turn: u64);
+
+    fn finish(&mut self) -> Result<(), AllocError>
+        ensures { OnOk result (done self.old self.new) };
+}
+
+/// Why workers did not come to their end.
+#[derive(Clone, Copy, Debug, PartialEq, Eq)]
+pub(crate) enum CrewFault {
+    Memory,
+    /// A thread could not start.
+    Workers,
+}
+
+impl From<AllocError> for CrewFault {
+    ghost use Rattle.std.specs.Prelude.{◌≡◌};
+    ghost use Rattle.head_replay.specs.declared.crew.CrewFault.TheVariants.{Memory};
+
+    ghost from_gives = { λ _ e. e ≡ Memory };
+
+    fn from(_error: AllocError) -> CrewFault {
+        CrewFault::Memory
+    }
+}
+
+/// Which threads may start: all, but in a test only those with a number below one.
+#[derive(Clone, Copy, Debug)]
+pub(crate) struct Starts {
+    below: usize,
+}
+
+impl Starts {
+    pub(crate) fn all() -> Starts {
+        Starts { below: usize::MAX }
+    }
+
+    #[cfg(test)]
+    pub(crate) fn below(number: usize) -> Starts {
+        Starts { below: number }
+    }
+
+    // The stack of a thread. No thread can have one as large as that which is refused.
+    fn stack(self, number: usize) -> Stack {
+        if number < self.below {
+            Stack::new()
+        } else {
+            Stack::new().stack_size(usize::MAX)
+        }
+    }
+}
+
+/// What the workers of a replay share.
+#[derive(Clone, Copy)]
+pub(crate) struct Crew<'a, R, G> {
+    rt: &'a R,
+    gate: &'a G,
+    starts: Starts,
+}
+
+impl<'a, R: Threads + Wait + Sync, G: Gate + Sync> Crew<'a, R, G> {
+    pub(crate) fn new(rt: &'a R, gate: &'a G, starts: Starts) -> Crew<'a, R, G> {
+        Crew { rt, gate, starts }
+    }
+
+    /// The jobs, each taken to its end in a thread of its own, in the round `turn`. All threads that were started have ended when it
+    /// answers.
+    pub(crate) fn finish<J: Job + Send + Drop>(
+        &self,
+        turn: u64,
+        jobs: Vec<J>,
+    ) -> Result<Vec<J>, CrewFault>
+        requires { vec_len jobs ≤ 64 }
+        ensures { IfOk result (λ after. AreDone J.done jobs.items after.items) }
+    {
+        finish_all(self.rt, self.starts, self.gate, turn, jobs)
+    }
+}
+
+// What is known of the jobs that a thread gives back.
+#[derive(Drop)]
+struct Finishes<J>(Snapshot<Vec<J>>);
+
+impl<J: Job> Promise<Result<Vec<J>, CrewFault>> for Finishes<J> {
+    ghost use Rattle.std.specs.Prelude.{IfOk};
+    ghost use Rattle.head_replay.specs.Jobs.{AreDone};
+
+    ghost kept_by = { λ p r. IfOk r (λ after. AreDone J.done p.0.value.items after.items) };
+}
+
+// The one job, where there is one.
+fn finish_one<J: Job + Drop, G: Gate>(
+    gate: &G,
+    turn: u64,
+    worker: usize,
+    mut jobs: Vec<J>,
+) -> Result<Vec<J>, CrewFault>
+    requires { vec_len jobs ≤ 1 }
+    ensures { IfOk result (λ after. AreDone J.done jobs.items after.items) }
+{
+    J::enter(gate, worker, turn);
+    if !jobs.is_empty() {
+        jobs[0].finish()?;
+    }
+    Ok(jobs)
+}
+
+// The jobs of both halves.
+fn put_together<J: Drop>(
+    low: Result<Vec<J>, CrewFault>,
+    high: Result<Vec<J>, CrewFault>,
+) -> Result<Vec<J>, CrewFault>
+    ensures { IfOk result (λ all. IsOkAnd low (λ a. IsOkAnd high (λ b. all.items ≡ a.items ++ b.items))) }
+{
+    let mut all = low?;
+    let mut rest = high?;
+    all.append(&mut rest)?;
+    Ok(all)
+}
+
+// Each job in a thread of its own: this one has the first, and the others are started by halving.
+#[cycle(halving)]
+fn finish_from<J: Job + Send + Drop, G: Gate + Sync, R: Threads + Wait + Sync>(
+    rt: &R,
+    starts: Starts,
+    gate: &G,
+    turn: u64,
+    first: usize,
+    mut jobs: Vec<J>,
+) -> Result<Vec<J>, CrewFault>
+    requires { first + vec_len jobs < 2 ^ 32 }
+    ensures { IfOk result (λ after. AreDone J.done jobs.items after.items) }
+{
+    if jobs.len() <= 1 {
+        return finish_one(gate, turn, first, jobs);
+    }
+    let half = jobs.len() / 2;
+    let rest = jobs.split_off(half)?;
+    thread::scope(
+        thread::scope_env(),
+        rt,
+        |scope| -> Result<Vec<J>, CrewFault>
+            requires { IsSync R.row × IsSync G.row × IsSend J.row × (0 < vec_len jobs) × (0 < vec_len rest) × (first + (half + vec_len rest) < 2 ^ 32) × (half ≡ vec_len jobs) }
+            ensures { IfOk result (λ after. AreDone J.done (jobs.items ++ rest.items) after.items) }
+        {
+            let were = Snapshot::of(&rest);
+            let there = move || -> Result<Vec<J>, CrewFault>
+                requires { IsSync R.row × IsSync G.row × IsSend J.row × (first + half + vec_len rest < 2 ^ 32) }
+                ensures { IfOk result (λ after. AreDone J.done rest.items after.items) }
+            { finish_from(rt, starts, gate, turn, first + half, rest) };
+            let stack = starts.stack(first + half);
+            let Ok(child) = stack.spawn_scoped_with(scope, Finishes(were), there) else {
+                return Err(CrewFault::Workers);
+            };
+            let low = finish_from(rt, starts, gate, turn, first, jobs);
+            let high = child.join(rt);
+            put_together(low, high)
+        },
+    )
+}
+
+// The same, where this thread only waits.
+fn finish_all<J: Job + Send + Drop, G: Gate + Sync, R: Threads + Wait + Sync>(
+    rt: &R,
+    starts: Starts,
+    gate: &G,
+    turn: u64,
+    jobs: Vec<J>,
+) -> Result<Vec<J>, CrewFault>
+    requires { vec_len jobs ≤ 64 }
+    ensures { IfOk result (λ after. AreDone J.done jobs.items after.items) }
+{
+    thread::scope(
+        thread::scope_env(),
+        rt,
+        |scope| -> Result<Vec<J>, CrewFault>
+            requires { vec_len jobs ≤ 64 }
+            ensures { IfOk result (λ after. AreDone J.done jobs.items after.items) }
+        {
+            let were = Snapshot::of(&jobs);
+            let all = move || -> Result<Vec<J>, CrewFault>
+                requires { vec_len jobs ≤ 64 }
+                ensures { IfOk result (λ after. AreDone J.done jobs.items after.items) }
+            { finish_from(rt, starts, gate, turn, 0, jobs) };
+            let stack = starts.stack(0);
+            let Ok(child) = stack.spawn_scoped_with(scope, Finishes(were), all) else {
+                return Err(CrewFault::Workers);
+            };
+            child.join(rt)
+        },
+    )
+}

@@ -1,0 +1,99 @@
+//! Why a log was not replayed.
+
+use crate::crew::CrewFault;
+use head_core::HeadFault;
+use std::alloc::AllocError;
+use std::error::Error;
+use std::fmt;
+
+/// Why a log was not replayed. Nothing is left behind.
+#[derive(Clone, Copy, Debug, PartialEq, Eq)]
+pub enum ReplayFault {
+    /// A replay has at least one worker.
+    NoWorkers,
+    /// A replay has at most 64 workers.
+    TooManyWorkers,
+    /// The log has more series, label texts or entries than a head may have.
+    Full,
+    /// Memory ran out.
+    Memory,
+    /// A thread could not start. Those that did were joined.
+    Workers,
+}
+
+impl fmt::Display for ReplayFault {
+    fn fmt<W: fmt::Write>(&self, f: &mut fmt::Formatter<W>) -> fmt::Result {
+        f.write_str(match self {
+            ReplayFault::NoWorkers => "no workers",
+            ReplayFault::TooManyWorkers => "more than 64 workers",
+            ReplayFault::Full => "too many series",
+            ReplayFault::Memory => "out of memory",
+            ReplayFault::Workers => "a thread could not start",
+        })
+    }
+}
+
+impl Error for ReplayFault {}
+
+/// Why so many workers as there may be came to no end.
+#[derive(Clone, Copy, Debug, PartialEq, Eq)]
+pub(crate) enum EngineFault {
+    Full,
+    Memory,
+    Workers,
+}
+
+impl From<EngineFault> for ReplayFault {
+    ghost use Rattle.std.specs.Prelude.{◌≡◌};
+    ghost use Rattle.head_replay.specs.Faults.{replay_fault};
+
+    ghost from_gives = { λ f e. e ≡ replay_fault f };
+
+    fn from(fault: EngineFault) -> ReplayFault {
+        match fault {
+            EngineFault::Full => ReplayFault::Full,
+            EngineFault::Memory => ReplayFault::Memory,
+            EngineFault::Workers => ReplayFault::Workers,
+        }
+    }
+}
+
+impl From<CrewFault> for EngineFault {
+    ghost use Rattle.std.specs.Prelude.{◌≡◌};
+    ghost use Rattle.head_replay.specs.Faults.{crew_fault};
+
+    ghost from_gives = { λ f e. e ≡ crew_fault f };
+
+    fn from(fault: CrewFault) -> EngineFault {
+        match fault {
+            CrewFault::Memory => EngineFault::Memory,
+            CrewFault::Workers => EngineFault::Workers,
+        }
+    }
+}
+
+impl From<HeadFault> for EngineFault {
+    ghost use Rattle.std.specs.Prelude.{◌≡◌};
+    ghost use Rattle.head_replay.specs.Faults.{head_fault};
+
+    ghost from_gives = { λ f e. e ≡ head_fault f };
+
+    fn from(fault: HeadFault) -> EngineFault {
+        match fault {
+            HeadFault::Full => EngineFault::Full,
+            // a resolver that was just made has not failed
+            HeadFault::Memory | HeadFault::Failed => EngineFault::Memory,
+        }
+    }
+}
+
+impl From<AllocError> for EngineFault {
+    ghost use Rattle.std.specs.Prelude.{◌≡◌};
+    ghost use Rattle.head_replay.specs.declared.fault.EngineFault.TheVariants.{Memory};
+
+    ghost from_gives = { λ _ e. e ≡ Memory };
+
+    fn from(_error: AllocError) -> EngineFault {
+        EngineFault::Memory
+    }
+}
