@@ -125,8 +125,9 @@ module _ {B I O : Type 0} where
   pub holds_new : (tag workers slots : ℕ) (bs : List B) (parts : List (Share B I O)) → 0 < workers → workers ≤ 64 → length bs ≡ slots → length parts ≡ workers
       → ((k : ℕ) (p : Share B I O) → k < workers → get_or parts k p ≡ record { tag = tag; workers = workers; worker = k; all_slots = slots; all_jobs = 0; slots = slots_of workers k (enumerate_from 0 bs); jobs = [] })
       → ((k : ℕ) (p : Share B I O) → k < workers → slots ≤ k + length (get_or parts k p).slots * workers)
+      → ((k : ℕ) (p : Share B I O) → k < workers → k + length (get_or parts k p).slots * workers < slots + workers)
       → Holds (record { tag = tag; workers = workers; builders = bs; jobs = [] }) slots 0 parts
-  holds_new tag workers slots bs parts some most long each built rows =
+  holds_new tag workers slots bs parts some most long each built rows ends =
       record {
         some = some;
         most = most;
@@ -135,8 +136,9 @@ module _ {B I O : Type 0} where
         numbers = λ k d low. absurd (omega arith);
         within = λ k d low. absurd (omega arith);
         each = each;
-        shares = λ k p low. rw (built k p low) (record { tag = refl; workers = refl; worker = refl; all_slots = sym long; slots = refl; jobs = refl });
+        shares = λ k p low. rw (built k p low) (record { tag = refl; workers = refl; worker = refl; slots = refl; jobs = refl });
         rows = λ k p low. (let r = rows k p low in omega arith);
+        ends = λ k p low. (let r = ends k p low in omega arith);
       }
 
   -- the slot's element is one of its worker's
@@ -163,6 +165,7 @@ module _ {B I O : Type 0} where
       let count' = h.count in
       let mine_is : IsShare d (slot % d.workers) p = rw (← at) at (h.shares (slot % d.workers) p under) in
       let row = rw (← at) at (h.rows (slot % d.workers) p under) in
+      let end = rw (← at) at (h.ends (slot % d.workers) p under) in
       let hit : is_of d.workers (slot % d.workers) job.slot ≡ true = rw same (mine d.workers slot) in
       record {
         some = h.some;
@@ -190,7 +193,6 @@ module _ {B I O : Type 0} where
                     tag = mine_is.tag;
                     workers = mine_is.workers;
                     worker = mine_is.worker;
-                    all_slots = mine_is.all_slots;
                     slots = mine_is.slots;
                     jobs = ap (λ x. x ++ job ∷ []) mine_is.jobs ∙ sym (jobs-more d.workers (slot % d.workers) d.jobs job hit);
                   })
@@ -203,7 +205,6 @@ module _ {B I O : Type 0} where
                     tag = s.tag;
                     workers = s.workers;
                     worker = s.worker;
-                    all_slots = s.all_slots;
                     slots = s.slots;
                     jobs = s.jobs ∙ sym (jobs-same d.workers k d.jobs job miss);
                   })
@@ -214,6 +215,12 @@ module _ {B I O : Type 0} where
             elim (bool_cases (slot % d.workers == k)) [
               | inl here ↦ (let i : k ≡ slot % d.workers = grind (arith, nat_tests) in rw (i, get_or-set_same parts (slot % d.workers) p' e (omega arith), is) row)
               | inr there ↦ (let i : k ≢ slot % d.workers = grind (arith, nat_tests) in rw (get_or-set_other parts (slot % d.workers) k p' e i) (h.rows k e within))
+            ]
+            );
+        ends = λ k e within. (
+            elim (bool_cases (slot % d.workers == k)) [
+              | inl here ↦ (let i : k ≡ slot % d.workers = grind (arith, nat_tests) in rw (i, get_or-set_same parts (slot % d.workers) p' e (omega arith), is) end)
+              | inr there ↦ (let i : k ≢ slot % d.workers = grind (arith, nat_tests) in rw (get_or-set_other parts (slot % d.workers) k p' e i) (h.ends k e within))
             ]
             );
       }
@@ -235,15 +242,15 @@ module _ {B I O : Type 0} where
       ∙ ap (λ x. record p { jobs = p.jobs ++ record { number = x; slot = slot; state = Queued item } ∷ [] }) (sym h.count) in
       rw of_worker (holds_dealt d slots count parts slot p p' (record { number = length d.jobs; slot = slot; state = Queued item }) h low refl h.count at is')
 
-  share_is : (d : Dealing B I O) (k : ℕ) (p : Share B I O) → IsShare d k p → record p { all_jobs = length d.jobs } ≡ share_of d k
-  share_is d k p s = rw (s.tag, s.workers, s.worker, s.all_slots, s.slots, s.jobs) refl
+  share_is : (d : Dealing B I O) (k : ℕ) (p : Share B I O) → IsShare d k p → record p { all_slots = length d.builders; all_jobs = length d.jobs } ≡ share_of d k
+  share_is d k p s = rw (s.tag, s.workers, s.worker, s.slots, s.jobs) refl
 
-  -- the parts with the count of all items are the shares
+  -- the parts with the counts of all slots and items are the shares
   pub holds_shares : (d : Dealing B I O) (slots count : ℕ) (parts parts' : List (Share B I O)) → Holds d slots count parts → length parts' ≡ length parts
-      → ((k : ℕ) (p : Share B I O) → k < length parts → get_or parts' k p ≡ record (get_or parts k p) { all_jobs = count })
+      → ((k : ℕ) (p : Share B I O) → k < length parts → get_or parts' k p ≡ record (get_or parts k p) { all_slots = slots; all_jobs = count })
       → AreShares d parts'
   holds_shares d slots count parts parts' h long counted =
-      (long ∙ h.each, λ k p low. (let each = h.each in let n = h.count in counted k p (omega arith) ∙ rw (← n) (share_is d k (get_or parts k p) (h.shares k p low))))
+      (long ∙ h.each, λ k p low. (let each = h.each in let n = h.count in let m = h.slots in counted k p (omega arith) ∙ rw (← n, ← m) (share_is d k (get_or parts k p) (h.shares k p low))))
 
   pub holds_deal : (d : Dealing B I O) (slots count : ℕ) (parts : List (Share B I O)) → Holds d slots count parts → IsDeal d
   holds_deal d slots count parts h = record { some = h.some; numbers = h.numbers; slots = h.within }

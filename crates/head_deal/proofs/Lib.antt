@@ -13,4 +13,5 @@ pub mod Seating
 pub mod Alone
 pub mod Shares
 pub mod Holding
+pub mod Adding
 pub mod Stepping

@@ -9,11 +9,14 @@ ghost use Rattle.head_deal.specs.Joining.{IsDeal, IsPartOf};
 ghost use Rattle.head_deal.specs.declared.Stepped.TheVariants.{Empty};
 
 use crate::parts::{Part, build_parts, count_in, lone_part};
-use crate::seats::{Seat, make_seats};
+use crate::seats::{Seat, make_room, make_seats, seat_next};
 use crate::spread::{make_rows, seat_all};
 use crate::{Builder, Stepped};
 use std::alloc::{AllocError, Global};
 use std::marker::Model;
+
+// The most slots that a deal grows to: with 64 workers more their count still fits.
+const MOST_SLOTS: usize = usize::MAX - 64;
 
 /// Why no deal was made.
 #[derive(Debug, Clone, Copy, PartialEq, Eq)]
@@ -174,6 +177,26 @@ impl<B: Builder> Deal<B> {
         self.count >= 4_294_967_296
     }
 
+    /// A slot more behind the others, with this builder. It is handed back where memory ran out, and nothing else is changed.
+    pub fn add(&mut self, builder: B) -> Result<(), B>
+        ensures added { OnOk result (self.new ≡ record self.old { builders = self.old.builders ++ builder ∷ [] }) }
+        ensures handed_back { IfErr result (λ b. b ≡ builder) }
+        ensures refused { OnErr result (self.new ≡ self.old) }
+    {
+        let slot = self.slots;
+        if slot >= MOST_SLOTS || make_room(&mut self.seats, slot).is_err() {
+            return Err(builder);
+        }
+        match self.parts[slot % self.workers].add(slot, builder) {
+            Ok(()) => {
+                seat_next(&mut self.seats, slot, self.workers);
+                self.slots += 1;
+                Ok(())
+            }
+            Err(builder) => Err(builder),
+        }
+    }
+
     /// Deals the item to the slot, behind all that were dealt before. The item is handed back where memory ran out, and nothing
     /// else is changed.
     pub fn deal(&mut self, slot: u32, item: B::Item) -> Result<(), B::Item>
@@ -230,12 +253,12 @@ impl<B: Builder> Deal<B> {
         let Deal {
             tag: _,
             workers: _,
-            slots: _,
+            slots,
             count,
             seats: _,
             mut parts,
         } = self;
-        count_in(&mut parts, count);
+        count_in(&mut parts, slots, count);
         Ok(parts)
     }
 }

@@ -20,7 +20,7 @@ pub(crate) struct Due<I> {
 }
 
 /// One worker's part of a deal: the builders of its slots, in rising order, its items in the order of dealing, and the outcomes of
-/// those that are done, which are the first.
+/// those that are done, which are the first. How many slots and items there are in all is noted when the deal is taken apart.
 #[derive(Drop)]
 pub struct Part<B: Builder> {
     pub(crate) tag: u64,
@@ -42,7 +42,7 @@ impl<B: Builder> Model for Part<B> {
 
     ghost view = { λ p. record { tag = p.tag; workers = p.workers; worker = p.worker; all_slots = p.all_slots; all_jobs = p.all_jobs; slots = strided p.worker p.workers p.builders.items; jobs = entries p.worker p.workers p.dues.items p.outcomes.items } };
 
-    ghost invariant = { λ p. (p.worker < p.workers) × All (λ due. due.element < length p.builders.items) p.dues.items × (length p.outcomes.items ≤ length p.dues.items) × (p.worker + length p.builders.items * p.workers < p.all_slots + p.workers) × (p.all_slots + p.workers < 2 ^ 64) };
+    ghost invariant = { λ p. (p.worker < p.workers) × All (λ due. due.element < length p.builders.items) p.dues.items × (length p.outcomes.items ≤ length p.dues.items) × (p.worker + length p.builders.items * p.workers < 2 ^ 64) };
 }
 
 /// Applies each item that is left of the part, in the order of dealing. Where memory ran out it stops at the item that was refused,
@@ -131,20 +131,35 @@ impl<B: Builder> Part<B> {
         }
     }
 
-    fn count_all(&mut self, count: usize)
-        ensures { self.new ≡ record self.old { all_jobs = count } }
+    /// Takes the builder of a slot, which is one stride behind the worker's last.
+    pub(crate) fn add(&mut self, slot: usize, builder: B) -> Result<(), B>
+        requires next { slot ≡ self.old.worker + length self.old.slots * self.old.workers }
+        requires small { slot + self.old.workers < 2 ^ 64 }
+        ensures added { OnOk result (self.new ≡ record self.old { slots = self.old.slots ++ (slot, builder) ∷ [] }) }
+        ensures refused { OnErr result (self.new ≡ self.old) }
+        ensures handed_back { IfErr result (λ b. b ≡ builder) }
     {
+        match self.builders.push(builder) {
+            Ok(()) => Ok(()),
+            Err(failed) => Err(failed.value),
+        }
+    }
+
+    fn count_all(&mut self, slots: usize, count: usize)
+        ensures { self.new ≡ record self.old { all_slots = slots; all_jobs = count } }
+    {
+        self.all_slots = slots;
         self.all_jobs = count;
     }
 }
 
-/// Notes in each part how many items there are in all.
-pub(crate) fn count_in<B: Builder>(parts: &mut Vec<Part<B>>, count: usize)
+/// Notes in each part how many slots and items there are in all.
+pub(crate) fn count_in<B: Builder>(parts: &mut Vec<Part<B>>, slots: usize, count: usize)
     ensures each { length parts.new.items ≡ length parts.old.items }
-    ensures counted { (k : ℕ) (p : _) → k < length parts.old.items → slice_index_or parts.new.items k p ≡ record (slice_index_or parts.old.items k p) { all_jobs = count } }
+    ensures counted { (k : ℕ) (p : _) → k < length parts.old.items → slice_index_or parts.new.items k p ≡ record (slice_index_or parts.old.items k p) { all_slots = slots; all_jobs = count } }
 {
     for place in 0..parts.len() {
-        parts[place].count_all(count);
+        parts[place].count_all(slots, count);
     }
 }
 

@@ -4,6 +4,7 @@ use crate::same;
 use head_column::{Column, Item, Outcome, Run, Sample, Tally};
 use head_deal::{Builder, Deal, DealFault, JoinFault, Joined, Part, Stepped, join_parts, run_part};
 use std::alloc::{AllocError, Global};
+use std::fmt::Debug;
 use std::process::Abort;
 
 // A builder of a series, to which nothing came yet.
@@ -41,6 +42,15 @@ const FIVE_OUTCOMES: &[Outcome] = &[
     Outcome::Hidden,
 ];
 
+// Builders to which nothing came yet.
+fn fresh_builders<B: Fresh>(alloc: Global, slots: usize) -> Result<Vec<B>, AllocError> {
+    let mut builders = Vec::new(alloc);
+    for _slot in 0..slots {
+        builders.push(B::fresh(alloc))?;
+    }
+    Ok(builders)
+}
+
 // A deal of these items to three slots, or to more.
 fn dealt<B: Fresh>(
     alloc: Global,
@@ -48,10 +58,7 @@ fn dealt<B: Fresh>(
     workers: usize,
     slots: usize,
 ) -> Result<Deal<B>, AllocError> {
-    let mut builders = Vec::new(alloc);
-    for _slot in 0..slots {
-        builders.push(B::fresh(alloc))?;
-    }
+    let builders = fresh_builders(alloc, slots)?;
     let mut deal = Deal::new(alloc, tag, workers, builders).map_err(|_| AllocError)?;
     for (slot, item) in FIVE {
         if deal.is_full() || deal.slots() <= *slot as usize {
@@ -194,6 +201,91 @@ fn parts_in_any_order(rt: HostRuntime) -> Result<(), AllocError> {
             let columns: Vec<Column> = check_parts(&rt, rt.alloc(), workers, falls)?;
             check_columns(&rt, workers, &columns)?;
         }
+    }
+    Ok(())
+}
+
+// Items for nine series, of which some have none, and what becomes of each.
+const GROWING: &[(u32, Item)] = &[
+    (0, Item::Sample(kept!(10, 1))),
+    (1, Item::Sample(kept!(5, 2))),
+    (0, Item::Sample(kept!(10, 3))),
+    (2, Item::Stone(run!(4, 3))),
+    (8, Item::Sample(kept!(1, 4))),
+    (1, Item::Stone(run!(1, 2))),
+    (7, Item::Sample(kept!(3, 5))),
+    (8, Item::Sample(kept!(1, 6))),
+    (0, Item::Sample(kept!(11, 7))),
+];
+
+const GROWING_OUTCOMES: &[Outcome] = &[
+    Outcome::Accepted,
+    Outcome::Accepted,
+    Outcome::Stale,
+    Outcome::EmptyStone,
+    Outcome::Accepted,
+    Outcome::Hidden,
+    Outcome::Accepted,
+    Outcome::Stale,
+    Outcome::Accepted,
+];
+
+// A deal with so many slots at first. The others are added when an item for them comes, and the first worker steps after each item.
+fn dealt_growing<B: Fresh>(
+    alloc: Global,
+    workers: usize,
+    slots: usize,
+) -> Result<Deal<B>, AllocError> {
+    let builders = fresh_builders(alloc, slots)?;
+    let mut deal = Deal::new(alloc, 7, workers, builders).map_err(|_| AllocError)?;
+    for (slot, item) in GROWING {
+        for _slot in deal.slots()..*slot as usize + 1 {
+            deal.add(B::fresh(alloc)).map_err(|_| AllocError)?;
+        }
+        if deal.is_full() || deal.slots() <= *slot as usize {
+            return Err(AllocError);
+        }
+        deal.deal(*slot, *item).map_err(|_| AllocError)?;
+        steps(alloc, &mut deal, &[0])?;
+    }
+    Ok(deal)
+}
+
+// The outcomes of such a deal, and what its builders print as.
+fn ended_growing<B: Fresh + Debug>(
+    alloc: Global,
+    workers: usize,
+    slots: usize,
+) -> Result<(Vec<Outcome>, String), AllocError> {
+    let deal: Deal<B> = dealt_growing(alloc, workers, slots)?;
+    let mut parts = deal.into_parts().map_err(|_| AllocError)?;
+    for part in &mut parts {
+        run_part(part)?;
+    }
+    let ended = join_parts(alloc, parts).map_err(|_| AllocError)?;
+    let text = format!(in alloc; "{:?}", ended.builders.as_slice())?;
+    Ok((ended.outcomes, text))
+}
+
+// Slots that are added one by one end as those of a deal that has all nine from the beginning.
+fn check_growing<B: Fresh + Debug>(
+    rt: &impl Abort,
+    alloc: Global,
+    workers: usize,
+) -> Result<(), AllocError> {
+    let (whole, whole_text) = ended_growing::<B>(alloc, workers, 9)?;
+    let (grown, grown_text) = ended_growing::<B>(alloc, workers, 0)?;
+    same(rt, workers, whole.as_slice(), GROWING_OUTCOMES);
+    same(rt, workers, grown.as_slice(), GROWING_OUTCOMES);
+    same(rt, workers, grown_text, whole_text);
+    Ok(())
+}
+
+#[test]
+fn slots_added_while_dealing(rt: HostRuntime) -> Result<(), AllocError> {
+    for workers in [1, 2, 7] {
+        check_growing::<Tally>(&rt, rt.alloc(), workers)?;
+        check_growing::<Column>(&rt, rt.alloc(), workers)?;
     }
     Ok(())
 }
@@ -353,6 +445,11 @@ fn deal_or_nothing<B: Fresh>(rt: &impl Abort, alloc: Global) -> Result<(), Alloc
         first.as_slice(),
         &[Stepped::Done(Outcome::Accepted)],
     );
+    // a builder that memory was refused to is handed back, and is added now
+    if let Err(builder) = deal.add(B::fresh(alloc)) {
+        deal.add(builder).map_err(|_| AllocError)?;
+    }
+    same(rt, "slots", deal.slots(), 4);
     let mut parts = deal.into_parts().map_err(|_| AllocError)?;
     for part in &mut parts {
         // what memory was refused to is left, and is done now
@@ -368,6 +465,7 @@ fn deal_or_nothing<B: Fresh>(rt: &impl Abort, alloc: Global) -> Result<(), Alloc
         }
     };
     same(rt, "outcomes", ended.outcomes.as_slice(), FIVE_OUTCOMES);
+    same(rt, "builders", ended.builders.len(), 4);
     Ok(())
 }
 

@@ -15,7 +15,7 @@ invariant_of-self g c =
     let low' : c.args.element < length s.builders.items = omega (arith, length-strided s.worker s.workers s.builders.items) in
     let before = i.2 in
     elim c.match-push.branch [
-      | in-Ok w ↦ rw w.in-Ok.ensures.items (i.0, all-push (λ due. due.element < length s.builders.items) s.dues.items due i.1 low', omega (arith, length-append s.dues.items (due ∷ [])), i.3, i.4)
+      | in-Ok w ↦ rw w.in-Ok.ensures.items (i.0, all-push (λ due. due.element < length s.builders.items) s.dues.items due i.1 low', omega (arith, length-append s.dues.items (due ∷ [])), i.3)
       | in-Err w ↦ rw w.in-Err.ensures.items i
     ]
 
