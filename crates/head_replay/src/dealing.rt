@@ -36,8 +36,8 @@ impl<B: Builder> Job for Part<B> {
     }
 }
 
-// Counts what became of items.
-fn count_outcomes(counts: &mut Counts, outcomes: &[Outcome]) -> Result<(), HeadFault>
+/// Counts what became of items.
+pub(crate) fn count_outcomes(counts: &mut Counts, outcomes: &[Outcome]) -> Result<(), HeadFault>
     ensures counted { (before : List AnOutcome) → AreCountsOfOutcomes before counts.old → OnOk result (AreCountsOfOutcomes (before ++ outcomes.now) counts.new) }
     ensures others { counts.new ≡ with_outcomes counts.old counts.new }
     ensures full { result ≡ Err HeadFault.Full → (before more : List AnOutcome) (c : TheCounts) → AreCountsOfOutcomes before counts.old → AreCountsOfOutcomes ((before ++ outcomes.now) ++ more) c → AreCountsWithin c → ⊥ }

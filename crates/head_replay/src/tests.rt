@@ -4,6 +4,7 @@ mod cases;
 mod damaged;
 mod gates;
 mod lines;
+mod orders;
 mod refused;
 mod views;
 mod worked;

@@ -1,6 +1,7 @@
 //! Logs, and what they count.
 
 use crate::tests::lines::{Log, NO_FILES, input_of};
+use crate::tests::orders::head_in_order;
 use crate::tests::views::views;
 use crate::{NoGate, Options, Tallied, replay, tally};
 use head_core::{Counts, replay_serial};
@@ -84,7 +85,29 @@ fn check_by<R: Abort + Threads + Wait + Sync>(
     Ok(())
 }
 
-/// That each number of workers makes the head and the damage of the serial replay, and counts what the case says.
+// That the parts of so many workers make a head that shows this, in whichever order they are run.
+fn check_orders(
+    rt: &impl Abort,
+    alloc: Global,
+    input: &Input,
+    name: &str,
+    shown: &str,
+    workers: usize,
+) -> Result<(), Fail> {
+    for falls in [false, true] {
+        let Ok(head) = head_in_order(alloc, input, workers, falls) else {
+            panic!(rt; "{name} by {workers} parts");
+        };
+        assert_eq!(rt;
+            views(alloc, &head)?.as_str(),
+            shown,
+            "{name} by {workers} parts"
+        );
+    }
+    Ok(())
+}
+
+/// That each number of workers, and each order of their parts, makes the head and the damage of the serial replay, and counts what the case says.
 pub(crate) fn check<R: Abort + Threads + Wait + Sync>(
     rt: &R,
     alloc: Global,
@@ -96,6 +119,7 @@ pub(crate) fn check<R: Abort + Threads + Wait + Sync>(
     let shown = views(alloc, &serial.head)?;
     for workers in WORKERS {
         check_by(rt, alloc, &input, case, shown.as_str(), workers)?;
+        check_orders(rt, alloc, &input, case.name, shown.as_str(), workers)?;
     }
     Ok(())
 }
