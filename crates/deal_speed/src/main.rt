@@ -61,7 +61,7 @@ fn builders(alloc: Global) -> Result<Vec<Tally>, AllocError> {
 // Deals an item of this time to each slot.
 fn deal_lap(deal: &mut Deal<Tally>, time: i64) -> Result<(), AllocError> {
     for slot in 0..SLOTS {
-        if deal.is_full() || slot as usize >= deal.slots() {
+        if deal.items() >= 4_294_967_296 || slot as usize >= deal.slots() {
             return Err(AllocError);
         }
         deal.deal(slot, Item::Sample(Sample { time, value: 0 }))

@@ -19,3 +19,4 @@ pub mod AppliedOutcomes
 mod AppliedWorked
 pub mod CountRoom
 pub mod DraftLemmas
+pub mod Numbered

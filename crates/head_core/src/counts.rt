@@ -83,8 +83,8 @@ fn all_fit(counts: &[u64], more: u64) -> bool
 }
 
 impl Counts {
-    // The counts of no records.
-    pub(crate) fn new() -> Counts
+    /// The counts of no records.
+    pub fn new() -> Counts
         ensures { result ≡ no_counts }
     {
         Counts {

@@ -32,6 +32,7 @@ pub fn one_content()
 /// The slot that an item was resolved to is its owner's for good, since more entries move no series. So the items that were resolved
 /// to one slot are those that the label set there owns, in order.
 pub fn slots_stay()
+    ensures series { (es more : List Entry) → (later : List Labels) × (series_of (bindings (es ++ more)) ≡ series_of (bindings es) ++ later) }
     ensures places { (es : List Entry) → map {B = Option ℕ × Item} (λ k. (Some k.0, k.1)) (resolved es) ≡ map {B = Option ℕ × Item} (λ k. (place (same_labels k.0) (series_of (bindings es)), k.1)) (known es) }
     ensures items { (es : List Entry) (s : ℕ) (l : Labels) → slice_get (series_of (bindings es)) s ≡ Some l → map (λ k. k.1) (filter (λ k. nat_eq s k.0) (resolved es)) ≡ items_of l es }
 {}

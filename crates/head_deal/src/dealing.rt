@@ -170,16 +170,28 @@ impl<B: Builder> Deal<B> {
         self.workers
     }
 
-    /// Whether 2^32 items were dealt. Such a deal takes no more: whoever has more items begins a new deal.
-    pub fn is_full(&self) -> bool
-        ensures { IsTrue result ↔ (2 ^ 32 ≤ length self.now.jobs) }
+    /// How many items were dealt. With 2^32 a deal takes no more: whoever has more begins a new deal.
+    pub fn items(&self) -> usize
+        ensures { result ≡ length self.now.jobs }
     {
-        self.count >= 4_294_967_296
+        self.count
     }
 
-    /// A slot more behind the others, with this builder. It is handed back where memory ran out, and nothing else is changed.
+    /// A slot more behind the others, with this builder. What was dealt ends as it would without it. The builder is handed back where
+    /// memory ran out, and nothing else is changed.
     pub fn add(&mut self, builder: B) -> Result<(), B>
         ensures added { OnOk result (self.new ≡ record self.old { builders = self.old.builders ++ builder ∷ [] }) }
+        ensures slots { OnOk result (end_slots B.after (course B.value self.new) ≡ end_slots B.after (course B.value self.old) ++ (length self.old.builders, B.value builder) ∷ []) }
+        ensures items { OnOk result (end_jobs B.after B.outcome (course B.value self.new) ≡ end_jobs B.after B.outcome (course B.value self.old)) }
+        ensures handed_back { IfErr result (λ b. b ≡ builder) }
+        ensures refused { OnErr result (self.new ≡ self.old) }
+    {
+        self.add_last(builder)
+    }
+
+    fn add_last(&mut self, builder: B) -> Result<(), B>
+        ensures added { OnOk result (self.new ≡ record self.old { builders = self.old.builders ++ builder ∷ [] }) }
+        ensures within { All (λ job. job.slot < length self.old.builders) self.old.jobs }
         ensures handed_back { IfErr result (λ b. b ≡ builder) }
         ensures refused { OnErr result (self.new ≡ self.old) }
     {

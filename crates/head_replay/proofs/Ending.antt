@@ -96,9 +96,9 @@ module _ {B V : Type 0} (value : B → V) (after : V → Item → V) (outcome : 
       ∙ length_numbered 0 (map value d.builders)
       ∙ length_map value d.builders
 
-  pub ends_first : (workers : ℕ) (builders : List B) (d : Dealing B Item Outcome) (c : Counts) → d ≡ record { tag = 0; workers = workers; builders = builders; jobs = [] } → AreCountsOfOutcomes [] c → Ends value after outcome (enumerate_from 0 (map value builders)) [] d c
-  ends_first workers builders d c is none =
-      subst (λ (e : Dealing B Item Outcome). Ends value after outcome (enumerate_from 0 (map value builders)) [] e c) (sym is)
+  pub ends_first : (tag workers : ℕ) (d : Dealing B Item Outcome) (c : Counts) → d ≡ record { tag = tag; workers = workers; builders = []; jobs = [] } → AreCountsOfOutcomes [] c → Ends value after outcome [] [] d c
+  ends_first tag workers d c is none =
+      subst (λ (e : Dealing B Item Outcome). Ends value after outcome [] [] e c) (sym is)
       (record { values = refl; counted = []; outcomes = refl; counts = none })
 
   module _ {slots : List (ℕ × V)} {items : List (ℕ × Item)} {d : Dealing B Item Outcome} {c : Counts} (h : Ends value after outcome slots items d c) where
@@ -122,9 +122,9 @@ module _ {B V : Type 0} (value : B → V) (after : V → Item → V) (outcome : 
         }
 
     -- what was dealt is run and counted, and a new deal begins
-    pub ends_again : (workers : ℕ) (builders : List B) (e : Dealing B Item Outcome) (now : Counts) → map value builders ≡ ending_values after (course value d) → AreCountsOfOutcomes (h.counted ++ ending_outcomes after outcome (course value d)) now
-        → e ≡ record { tag = 0; workers = workers; builders = builders; jobs = [] } → Ends value after outcome slots items e now
-    ends_again workers builders e now values_are counted is =
+    pub ends_again : (tag workers : ℕ) (builders : List B) (e : Dealing B Item Outcome) (now : Counts) → map value builders ≡ ending_values after (course value d) → AreCountsOfOutcomes (h.counted ++ ending_outcomes after outcome (course value d)) now
+        → e ≡ record { tag = tag; workers = workers; builders = builders; jobs = [] } → Ends value after outcome slots items e now
+    ends_again tag workers builders e now values_are counted is =
         let numbered : enumerate_from 0 (map (λ p. p.1) (end_slots after (course value d))) ≡ end_slots after (course value d) = numbered_endings after outcome 0 d.jobs (enumerate_from 0 (map value d.builders)) (numbered_first after outcome 0 (map value d.builders)) in
         subst (λ (f : Dealing B Item Outcome). Ends value after outcome slots items f now) (sym is)
         (record {

@@ -1,7 +1,8 @@
 pub mod Counted
 pub mod Ending
+pub mod Growing
 pub mod Items
 pub mod Made
-pub mod Numbered
 pub mod Parts
+pub mod RecordByRecord
 pub mod Shares

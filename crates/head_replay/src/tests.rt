@@ -1,10 +1,57 @@
-//! Tests of replay by workers.
+//! Starts of threads that are refused, which no public call can bring about. The other tests go by public calls, in a crate of their own.
 
-mod cases;
-mod damaged;
-mod gates;
-mod lines;
-mod orders;
-mod refused;
-mod views;
-mod worked;
+use crate::NoGate;
+use crate::crew::{Crew, Starts};
+use crate::fault::EngineFault;
+use crate::replaying::{replay_by, tally_by};
+use crate::rounds::Rounds;
+use head_column::Column;
+use head_core::Counts;
+use std::alloc::{AllocError, Global};
+use std::process::Abort;
+use std::sync::Wait;
+use std::test::Fail;
+use std::thread::Threads;
+use wal_log::Input;
+
+// The log of an empty directory.
+fn no_files(alloc: Global) -> Result<Input, AllocError> {
+    match Input::new(None, Vec::new(alloc)) {
+        Ok(input) => Ok(input),
+        Err(_) => Err(AllocError),
+    }
+}
+
+// The fault of seven parts of no items, of which only the first so many may start.
+fn fault_of_parts<R: Threads + Wait + Sync>(
+    rt: &R,
+    alloc: Global,
+    starts: Starts,
+) -> Option<EngineFault> {
+    let crew = Crew::new(rt, &NoGate, starts);
+    match Rounds::<Column>::new(alloc, 7, Counts::new()) {
+        Ok(rounds) => rounds.finish(&crew, alloc).err(),
+        Err(fault) => Some(fault),
+    }
+}
+
+#[test]
+fn refused_starts(rt: HostRuntime) -> Result<(), Fail> {
+    let alloc = rt.alloc();
+    let input = no_files(alloc)?;
+    for number in 0..8usize {
+        let fault = if number < 7 {
+            Some(EngineFault::Workers)
+        } else {
+            None
+        };
+        let crew = Crew::new(&rt, &NoGate, Starts::below(number));
+        let replayed = replay_by(&crew, alloc, &input, 7).err();
+        assert_eq!(rt; replayed, fault, "replay with {number} starts");
+        let tallied = tally_by(&crew, alloc, &input, 7).err();
+        assert_eq!(rt; tallied, fault, "tally with {number} starts");
+        let parts = fault_of_parts(&rt, alloc, Starts::below(number));
+        assert_eq!(rt; parts, fault, "parts with {number} starts");
+    }
+    Ok(())
+}

@@ -61,7 +61,7 @@ fn dealt<B: Fresh>(
     let builders = fresh_builders(alloc, slots)?;
     let mut deal = Deal::new(alloc, tag, workers, builders).map_err(|_| AllocError)?;
     for (slot, item) in FIVE {
-        if deal.is_full() || deal.slots() <= *slot as usize {
+        if deal.items() >= 4_294_967_296 || deal.slots() <= *slot as usize {
             return Err(AllocError);
         }
         deal.deal(*slot, *item).map_err(|_| AllocError)?;
@@ -242,7 +242,7 @@ fn dealt_growing<B: Fresh>(
         for _slot in deal.slots()..*slot as usize + 1 {
             deal.add(B::fresh(alloc)).map_err(|_| AllocError)?;
         }
-        if deal.is_full() || deal.slots() <= *slot as usize {
+        if deal.items() >= 4_294_967_296 || deal.slots() <= *slot as usize {
             return Err(AllocError);
         }
         deal.deal(*slot, *item).map_err(|_| AllocError)?;

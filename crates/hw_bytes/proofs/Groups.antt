@@ -143,3 +143,9 @@ too_large i value bytes pos within is large =
     (let next : suc (i - 1) ≡ i = omega arith in drop-cons bytes (i - 1) 0 (omega arith) ∙ ap (λ j. get_or bytes (i - 1) 0 ∷ drop j bytes) next) in
     let more : groups (drop (i - 1) bytes) ≡ get_or bytes (i - 1) 0 % 128 + 128 * groups (drop i bytes) = ap groups here in
     le-ltb (groups bytes) (2 ^ 64) (omega (arith, groups-drop (i - 1) bytes))
+
+-- a number of one byte
+pub uvarint_at-one : (bytes : List ℕ) → 0 < length bytes → get_or bytes 0 0 < 128 → uvarint_at bytes ≡ Some (get_or bytes 0 0, 1)
+uvarint_at-one [] some small = absurd (omega arith)
+uvarint_at-one (b ∷ more) some small =
+    uvarint_at-again (b ∷ []) more b (record { continued = small; short = omega arith; value = omega (arith, small); fits = omega (arith, small) })

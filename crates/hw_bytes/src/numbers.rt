@@ -85,6 +85,10 @@ fn front_uvarint(bytes: &[u8]) -> Option<(u64, usize)>
     ensures exact { result ≡ uvarint_in_front bytes.now }
     ensures within { IfSome result (λ found. found.1 ≤ length bytes.now) }
 {
+    // most numbers are below 128, and take one byte
+    if !bytes.is_empty() && bytes[0] < 0x80 {
+        return Some((u64::from(bytes[0]), 1));
+    }
     let len = uvarint_end(bytes)?;
     let value = grouped(&bytes[..len])?;
     Some((value, len))

@@ -1,5 +1,9 @@
+use Rattle.head_core.proofs.Limits.{later_series, series_split}
 use Rattle.head_core.proofs.Slots.{items_of_slot, slots_stay}
 use Rattle.head_core.proofs.laws.slots_stay.Goals as goal
+
+pub returns-clause-series : goal.returns-clause-series
+returns-clause-series c = λ es more. (later_series es more, series_split es more)
 
 pub returns-clause-places : goal.returns-clause-places
 returns-clause-places c = slots_stay

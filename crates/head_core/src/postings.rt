@@ -1,0 +1,21 @@
+//! The series of each label.
+
+ghost use Rattle.std.specs.Prelude.{IfOk};
+ghost use Rattle.head_postings.specs.Postings.{IsPostingsOf};
+ghost use Rattle.head_core.specs.Content.{by_slot};
+
+use head_postings::Postings;
+use head_series::{SeriesTable, Slot};
+use std::alloc::{AllocError, Global};
+
+/// The slots of each label of a table: what `Head::assemble` asks for, of the resolver's table.
+pub fn postings_of(alloc: Global, table: &SeriesTable) -> Result<Postings, AllocError>
+    ensures postings { IfOk result (λ postings. IsPostingsOf (by_slot table.now.series) postings) }
+{
+    let mut postings = Postings::new(alloc);
+    for number in 0..table.len() {
+        let slot = Slot::new(number as u32);
+        postings.add(slot, &table.labels(slot)?)?;
+    }
+    Ok(postings)
+}

@@ -1,0 +1,101 @@
+//! Logs, and what they count.
+
+use crate::lines::{Log, NO_FILES, input_of};
+use head_core::{Counts, replay_serial};
+use head_replay::{NoGate, Options, Tallied, replay, tally};
+use head_views::views;
+use std::alloc::Global;
+use std::process::Abort;
+use std::sync::Wait;
+use std::test::Fail;
+use std::thread::Threads;
+use wal_log::{Damage, Input};
+
+/// A log, and what it counts, by whatever number of workers it is replayed.
+#[derive(Clone, Copy)]
+pub(crate) struct Case {
+    pub(crate) name: &'static str,
+    pub(crate) log: Log,
+    pub(crate) counts: Counts,
+    pub(crate) series: u64,
+    pub(crate) damage: Option<Damage>,
+}
+
+/// What an empty log counts.
+pub(crate) const NOTHING: Counts = Counts {
+    series_records: 0,
+    sample_records: 0,
+    stone_records: 0,
+    skipped_records: 0,
+    series_entries: 0,
+    accepted: 0,
+    stale: 0,
+    unknown: 0,
+    hiding: 0,
+    empty_stones: 0,
+    unknown_stones: 0,
+};
+
+/// A log of no files.
+pub(crate) const EMPTY_DIRECTORY: Case = Case {
+    name: "an empty directory",
+    log: NO_FILES,
+    counts: NOTHING,
+    series: 0,
+    damage: None,
+};
+
+/// How many workers there are in a test that tries several numbers of them.
+pub(crate) const WORKERS: [usize; 4] = [1, 2, 7, 64];
+
+/// Replay by so many workers.
+pub(crate) fn by(workers: usize) -> Options {
+    Options {
+        workers,
+        round_pages: 256,
+    }
+}
+
+// That so many workers make a head that shows this, and damage and counts as of the case.
+fn check_by<R: Abort + Threads + Wait + Sync>(
+    rt: &R,
+    alloc: Global,
+    input: &Input,
+    case: &Case,
+    shown: &str,
+    workers: usize,
+) -> Result<(), Fail> {
+    let name = case.name;
+    let replayed = replay(rt, alloc, input, &by(workers), &NoGate)?;
+    assert_eq!(rt; replayed.head.counts(), case.counts, "{name} by {workers}");
+    assert_eq!(rt; replayed.damage, case.damage, "{name} by {workers}");
+    assert_eq!(rt;
+        views(alloc, &replayed.head)?.as_str(),
+        shown,
+        "{name} by {workers}"
+    );
+    let tallied = tally(rt, alloc, input, &by(workers), &NoGate)?;
+    let wanted = Tallied {
+        counts: case.counts,
+        series: case.series,
+        damage: case.damage,
+    };
+    assert_eq!(rt; tallied, wanted, "tally of {name} by {workers}");
+    Ok(())
+}
+
+/// That each number of workers makes the head and the damage of the serial replay, and counts what the case says.
+pub(crate) fn check<R: Abort + Threads + Wait + Sync>(
+    rt: &R,
+    alloc: Global,
+    case: &Case,
+) -> Result<(), Fail> {
+    let input = input_of(alloc, case.log)?;
+    let serial = replay_serial(alloc, &input)?;
+    assert_eq!(rt; serial.damage, case.damage, "{} one by one", case.name);
+    let shown = views(alloc, &serial.head)?;
+    for workers in WORKERS {
+        check_by(rt, alloc, &input, case, shown.as_str(), workers)?;
+    }
+    Ok(())
+}

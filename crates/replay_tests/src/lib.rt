@@ -1,0 +1,15 @@
+//! Tests of replay by workers, by its public calls.
+#![tactic(auto)]
+
+#[cfg(test)]
+mod cases;
+#[cfg(test)]
+mod damaged;
+#[cfg(test)]
+mod gates;
+#[cfg(test)]
+mod lines;
+#[cfg(test)]
+mod refused;
+#[cfg(test)]
+mod worked;
