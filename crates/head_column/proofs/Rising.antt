@@ -1,11 +1,9 @@
 -- Samples whose times rise: the last one is the latest.
-use Rattle.std.proofs.Common.{◌≡◌, ◌-◌, Bool, true, false, List, [], ◌∷◌, ◌++◌, Option, Some, None, ap, sym, ◌∙◌, refl, arith, length, get_or}
+use Rattle.std.proofs.Common.{◌≡◌, Bool, true, false, List, [], ◌∷◌, ◌++◌, Option, Some, None, ap, sym, ◌∙◌, refl, arith}
 use Rattle.std.specs.Prelude.{ℤ, ◌<ℤ◌, ◌||◌, map, int_le, int_lt, if◌then◌else◌}
-use Rattle.std.specs.List.{slice_get, fold}
 use Rattle.std.proofs.lemmas.Bool.{or_parts}
 use Rattle.std.proofs.lemmas.Int.{ints}
 use Rattle.std.proofs.lemmas.List.Folds.{list_any-append}
-use Rattle.std.proofs.lemmas.Option.{slice_get_within, get_or_from_slice_get}
 use Rattle.hw_bytes.proofs.Lists.{by_push, map_push, fold-push}
 use Rattle.head_column.specs.declared.items.Sample.{Sample}
 use Rattle.head_column.specs.Samples.{Rises}
@@ -58,20 +56,3 @@ later_past (Some u) t h = by (int_lt u t) refl where
   by : (b : Bool) → int_lt u t ≡ b → (if b then Some t else Some u) ≡ Some t
   by true e = refl
   by false e = grind (arith, ints)
-
-lt_true : (a b : ℤ) → a <ℤ b → int_lt a b ≡ true
-lt_true a b h = grind (arith, ints)
-
-latest_from : (x : Sample) (xs : List Sample) (d : Sample) → Rises (x ∷ xs) → latest (x ∷ xs) ≡ Some (get_or (x ∷ xs) (length xs) d).time
-latest_from x [] d r = refl
-latest_from x (y ∷ ys) d r =
-    ap (λ b. fold later (if b then Some y.time else Some x.time) (map (λ s. s.time) ys)) (lt_true x.time y.time r.0)
-    ∙ latest_from y ys d r.1
-
--- where times rise, the last one is the latest
-pub latest_at : (xs : List Sample) (l : Sample) → slice_get xs (length xs - 1) ≡ Some l → Rises xs → latest xs ≡ Some l.time
-latest_at [] l h r = absurd (omega (arith, slice_get_within [] 0 l h))
-latest_at (x ∷ xs) l h r =
-    latest_from x xs l r
-    ∙ ap (λ n. Some (get_or (x ∷ xs) n l).time) (omega arith)
-    ∙ ap (λ s. Some s.time) (get_or_from_slice_get (x ∷ xs) (length (x ∷ xs) - 1) l l h)

@@ -3,7 +3,7 @@
 ghost use Rattle.std.specs.Prelude.{◌≡◌, ◌+◌, ◌<◌, ◌≤◌, ◌∷◌, ◌++◌, [], ℕ, All, List, IfOk, IsOk, OnErr, OnOk, filter, length};
 ghost use Rattle.head_column.specs.declared.items.Item.{Item as AnItem};
 ghost use Rattle.head_column.specs.declared.items.Outcome.TheVariants.{Stale, EmptyStone};
-ghost use Rattle.head_column.specs.Histories.{IsHistoryOf, history_after, history_outcome, latest, no_history};
+ghost use Rattle.head_column.specs.Histories.{IsHistoryOf, has_reached, history_after, history_outcome, latest, no_history};
 ghost use Rattle.head_column.specs.Items.{outcome_of};
 ghost use Rattle.head_column.specs.Runs.{AreApart};
 ghost use Rattle.head_column.specs.Samples.{Rises};
@@ -12,7 +12,7 @@ ghost use Rattle.head_column.specs.Chunks.{IsFit, chunks_of};
 
 use crate::cutting::cut_chunks;
 use crate::runs::merge;
-use crate::times::{has_reached, latest};
+use crate::times::reaches;
 use crate::{Chunk, Hour, Item, Outcome, Run, Sample};
 use head_deal::Builder;
 use std::alloc::{AllocError, Global};
@@ -35,6 +35,8 @@ fn fit_copy(sample: &Sample) -> Sample
 pub struct Column {
     samples: Vec<Sample>,
     hidden: Vec<Run>,
+    // The greatest time of the samples. It stands here so that an item needs no look at the end of their list, which is far away.
+    latest: Option<i64>,
 }
 
 // Written out: where another function lets go of a column, its proof has one call, and not a copy of this.
@@ -43,15 +45,16 @@ impl Drop for Column {
         let Column {
             samples: _samples,
             hidden: _hidden,
+            latest: _latest,
         } = self;
     }
 }
 
 impl Model for Column {
-    ghost use Rattle.std.specs.Prelude.{All, min, ◌-◌, vec_len};
+    ghost use Rattle.std.specs.Prelude.{◌≡◌, All, min, ◌-◌, vec_len};
     ghost use Rattle.std.specs.Vec.{vec_capacity};
     ghost use Rattle.head_column.specs.Chunks.{IsFit};
-    ghost use Rattle.head_column.specs.Histories.{ColumnValue};
+    ghost use Rattle.head_column.specs.Histories.{ColumnValue, latest as latest_of};
     ghost use Rattle.head_column.specs.Runs.{AreApart};
     ghost use Rattle.head_column.specs.Samples.{Rises};
 
@@ -62,7 +65,7 @@ impl Model for Column {
       spare = min (vec_capacity c.samples - vec_len c.samples) (vec_capacity c.hidden - vec_len c.hidden);
     } };
 
-    ghost invariant = { λ c. Rises c.samples.items × AreApart c.hidden.items × All IsFit c.samples.items };
+    ghost invariant = { λ c. Rises c.samples.items × AreApart c.hidden.items × All IsFit c.samples.items × (c.latest ≡ latest_of c.samples.items) };
 }
 
 impl Column {
@@ -74,6 +77,7 @@ impl Column {
         Column {
             samples: Vec::new(alloc),
             hidden: Vec::new(alloc),
+            latest: None,
         }
     }
 
@@ -88,7 +92,7 @@ impl Column {
     pub fn max_time(&self) -> Option<i64>
         ensures { result ≡ latest self.now.history.samples }
     {
-        latest(&self.samples)
+        self.latest
     }
 
     /// The runs of the hidden times: each has a time, they ascend, and between two of them lies a time that is not hidden.
@@ -137,6 +141,13 @@ impl Column {
         Ok(())
     }
 
+    // Whether one of the samples has an equal or later time.
+    fn has_reached(&self, time: i64) -> bool
+        ensures { result ≡ has_reached self.now.history.samples time }
+    {
+        reaches(self.max_time(), time)
+    }
+
     // Takes one item, as `apply` does.
     fn take(&mut self, item: &Item) -> Result<Outcome, AllocError>
         ensures changed { OnOk result (self.new.history ≡ history_after self.old.history item.now) }
@@ -149,10 +160,11 @@ impl Column {
     {
         match item {
             Item::Sample(sample) => {
-                if has_reached(&self.samples, sample.time) {
+                if self.has_reached(sample.time) {
                     return Ok(Outcome::Stale);
                 }
                 self.samples.push(fit_copy(sample))?;
+                self.latest = Some(sample.time);
                 Ok(Outcome::Accepted)
             }
             Item::Stone(run) => {

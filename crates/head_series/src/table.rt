@@ -214,12 +214,25 @@ impl SeriesTable {
         (self.texts.bytes(number.0), self.texts.bytes(number.1))
     }
 
+    // How many bytes the names and the values of a series come to.
+    fn texts_len(&self, slot: Slot) -> usize
+        requires { slot < length self.now.series }
+    {
+        let mut total: usize = 0;
+        for i in 0..self.pairs(slot) {
+            let (name, value) = self.pair(slot, i);
+            total = total.saturating_add(name.len()).saturating_add(value.len());
+        }
+        total
+    }
+
     /// The label set of a series, in memory of its own.
     pub fn labels(&self, slot: Slot) -> Result<LabelSet, AllocError>
         requires { slot < length self.now.series }
         ensures { IfOk result (λ labels. labels ≡ labels_at self.now slot) }
     {
-        let mut labels = LabelSet::new(*self.rows.allocator());
+        let alloc = *self.rows.allocator();
+        let mut labels = LabelSet::with_room(alloc, self.pairs(slot), self.texts_len(slot))?;
         for i in 0..self.pairs(slot) {
             let (name, value) = self.pair(slot, i);
             match labels.push(name, value) {
