@@ -338,7 +338,7 @@ take_all (x ∷ xs) zero h = absurd (omega arith)
 take_all (x ∷ xs) (suc k) h = ap (λ ys. x ∷ ys) (take_all xs k (omega arith))
 
 -- the place of a row's label set lies in the list
-set_within : (sets : List Labels) (rows given : List PreparedRow) (k : ℕ) (d : PreparedRow) → given ≡ rows → ArePlaced sets rows → k < length given → (get_or given k d).set < length sets
+pub set_within : (sets : List Labels) (rows given : List PreparedRow) (k : ℕ) (d : PreparedRow) → given ≡ rows → ArePlaced sets rows → k < length given → (get_or given k d).set < length sets
 set_within sets rows given k d same placed within =
     subst (λ rs. (get_or rs k d).set < length sets) (sym same) (place_within (with_set sets (get_or rows k d)).labels sets (get_or rows k d).set (placed k d (subst (λ (rs : List PreparedRow). k < length rs) same within)))
 

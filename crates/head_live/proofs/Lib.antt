@@ -6,3 +6,6 @@ pub mod RowLemmas
 pub mod JudgeLemmas
 pub mod StartLemmas
 pub mod PrepareLemmas
+pub mod CloseLemmas
+pub mod TellLemmas
+pub mod Sends

@@ -6,3 +6,6 @@ pub mod Batch
 pub mod Judged
 pub mod Moments
 pub mod Faults
+pub mod Told
+pub mod Closing
+pub mod Placing

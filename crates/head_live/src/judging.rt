@@ -1,6 +1,6 @@
 //! Rows, judged one after another.
 
-ghost use Rattle.std.specs.Prelude.{◌≡◌, ◌⊎◌, ◌++◌, ◌∷◌, [], Err, IfErr, IfOk, None, OnOk, Some, false};
+ghost use Rattle.std.specs.Prelude.{◌≡◌, ◌⊎◌, ◌++◌, ◌∷◌, [], Err, IfErr, IfOk, None, OnOk, Some, false, map};
 ghost use Rattle.hw_bytes.specs.Lists.{or_else};
 ghost use Rattle.wal_record.specs.Labels.{same_labels};
 ghost use Rattle.head_column.specs.Times.{reaches};
@@ -14,6 +14,7 @@ use crate::prepared::{Prepared, PreparedRow};
 use crate::verdict::Verdict;
 use head_core::Head;
 use std::alloc::{AllocError, Global};
+use std::sync::Arc;
 use wal_record::{LabelSet, SampleEntry, SeriesEntry};
 
 // What stands for a label set so far: its reference, if it has one, and its greatest time, if it has a sample.
@@ -50,10 +51,14 @@ fn standing_of(head: &Head, labels: &LabelSet) -> Standing
 }
 
 // What stands for each label set in the head.
-fn standings(alloc: Global, head: &Head, sets: &[LabelSet]) -> Result<Vec<Standing>, AllocError>
+fn standings(
+    alloc: Global,
+    head: &Head,
+    sets: &[Arc<LabelSet, Global>],
+) -> Result<Vec<Standing>, AllocError>
     requires sound { head.now.failed ≡ false }
     requires distinct { AreDistinct same_labels head.now.content.table.series }
-    ensures { IfOk result (λ standings. AreStarts head.now.content sets.now standings.items) }
+    ensures { IfOk result (λ standings. AreStarts head.now.content (map (λ s. s.value) sets.now) standings.items) }
 {
     let mut standings = Vec::with_capacity(alloc, sets.len())?;
     for labels in sets {
@@ -75,8 +80,8 @@ fn take_next(next: &mut Option<u64>) -> Option<u64>
     taken
 }
 
-// Whether there is a sample of this time or a later one.
-fn is_reached(last: Option<i64>, time: i64) -> bool
+/// Whether there is a sample of this time or a later one.
+pub(crate) fn is_reached(last: Option<i64>, time: i64) -> bool
     ensures { result ≡ reaches last time }
 {
     match last {

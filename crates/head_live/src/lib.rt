@@ -2,16 +2,30 @@
 //! each moment where its log leads.
 #![tactic(auto)]
 
+mod agreeing;
+mod appender;
+mod closing;
 mod fault;
+mod held;
 mod judging;
 mod live;
 mod logging;
+mod placed;
 mod prepared;
 mod rows;
+mod run;
+mod shared;
+mod told;
 mod verdict;
 
+pub use appender::Appender;
+pub use closing::{CloseFault, Closed};
 pub use fault::{AppendFault, PrepareFault};
+pub use held::Held;
 pub use live::Live;
 pub use prepared::Prepared;
 pub use rows::RawRow;
+pub use run::HeadRun;
+pub use shared::{AppenderFault, CloseRefused, SharedHead};
+pub use told::Told;
 pub use verdict::Verdict;

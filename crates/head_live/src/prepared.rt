@@ -10,8 +10,9 @@ ghost use Rattle.head_live.specs.Refused.{IsRefusedAt, IsRefusedSet, labels_of};
 use crate::fault::PrepareFault;
 use crate::rows::RawRow;
 use head_series::SeriesTable;
-use std::alloc::Global;
+use std::alloc::{AllocError, Global};
 use std::marker::Model;
+use std::sync::Arc;
 use wal_record::{LabelFault, LabelSet};
 
 /// A row of a list whose label sets stand apart, each once: the number of its set there.
@@ -26,7 +27,8 @@ pub(crate) struct PreparedRow {
 /// that an append looks each up once.
 #[derive(Debug, Drop)]
 pub struct Prepared {
-    pub(crate) sets: Vec<LabelSet>,
+    // lent to what appenders are told of the rows
+    pub(crate) sets: Vec<Arc<LabelSet, Global>>,
     pub(crate) rows: Vec<PreparedRow>,
 }
 
@@ -37,9 +39,9 @@ impl Model for Prepared {
 
     ghost Value = { List Row };
 
-    ghost view = { λ p. map (with_set p.sets.items) p.rows.items };
+    ghost view = { λ p. map (with_set (map (λ s. s.value) p.sets.items)) p.rows.items };
 
-    ghost invariant = { λ p. ArePlaced p.sets.items p.rows.items };
+    ghost invariant = { λ p. ArePlaced (map (λ s. s.value) p.sets.items) p.rows.items };
 }
 
 // The label set of these pairs.
@@ -89,6 +91,17 @@ fn number_of(
     Ok(bound.slot.index())
 }
 
+// These label sets, each to be shared.
+fn shared(alloc: Global, sets: Vec<LabelSet>) -> Result<Vec<Arc<LabelSet, Global>>, AllocError>
+    ensures { IfOk result (λ shared. map (λ s. s.value) shared.items ≡ sets.items) }
+{
+    let mut shared = Vec::with_capacity(alloc, sets.len())?;
+    for labels in sets {
+        shared.push(Arc::new(alloc, labels)?)?;
+    }
+    Ok(shared)
+}
+
 impl Prepared {
     /// Prepares rows: the pairs of each are to be a label set, names ascending and none empty. It takes no lock and asks nothing of
     /// a head.
@@ -110,7 +123,7 @@ impl Prepared {
             })?;
         }
         Ok(Prepared {
-            sets,
+            sets: shared(alloc, sets)?,
             rows: prepared,
         })
     }

@@ -14,4 +14,6 @@ mod prepares;
 #[cfg(test)]
 mod rows;
 #[cfg(test)]
+mod shared;
+#[cfg(test)]
 mod views;

@@ -6,9 +6,9 @@ use Rattle.head_live.proofs.judging.judge.Given as goal
 
 abbrev pub invariant-loop-row : goal.invariant-loop-row
 invariant-loop-row l = record {
-  starts : AreStarts l.head.content l.rows-inside.sets.items l.initial.standings.items;
-  judges : Judges l.head.content l.rows-inside.sets.items (known_in l.rows-inside.sets.items l.initial.standings.items)
-      (map (with_set l.rows-inside.sets.items) (take l.row-index l.rows-inside.rows.items))
-      (accepted l.head.content (map (with_set l.rows-inside.sets.items) (take l.row-index l.rows-inside.rows.items)))
+  starts : AreStarts l.head.content (map (λ s. s.value) l.rows-inside.sets.items) l.initial.standings.items;
+  judges : Judges l.head.content (map (λ s. s.value) l.rows-inside.sets.items) (known_in (map (λ s. s.value) l.rows-inside.sets.items) l.initial.standings.items)
+      (map (with_set (map (λ s. s.value) l.rows-inside.sets.items)) (take l.row-index l.rows-inside.rows.items))
+      (accepted l.head.content (map (with_set (map (λ s. s.value) l.rows-inside.sets.items)) (take l.row-index l.rows-inside.rows.items)))
       l.standings.items l.next l.judged.verdicts.items l.judged.series.items l.judged.samples.items;
 }
