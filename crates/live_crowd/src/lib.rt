@@ -63,6 +63,20 @@ fn put<K: HeadRun, S: Desk<K>, R: Wait>(
     }
 }
 
+// Prepares once more where memory was refused.
+fn rows_of<P: Plan>(
+    plan: &P,
+    alloc: Global,
+    appender: usize,
+    call: usize,
+) -> Result<Prepared, PrepareFault> {
+    match plan.rows(alloc, appender, call) {
+        Ok(rows) => Ok(rows),
+        Err(PrepareFault::Memory) => plan.rows(alloc, appender, call),
+        Err(fault) => Err(fault),
+    }
+}
+
 impl<K: HeadRun> Writer<K> {
     fn append_all<S: Desk<K>, P: Plan, R: Wait>(
         &mut self,
@@ -72,7 +86,7 @@ impl<K: HeadRun> Writer<K> {
         plan: &P,
     ) {
         for call in 0..plan.calls() {
-            let Ok(rows) = plan.rows(alloc, self.number, call) else {
+            let Ok(rows) = rows_of(plan, alloc, self.number, call) else {
                 self.refused = Some(AppendFault::Memory);
                 return;
             };
