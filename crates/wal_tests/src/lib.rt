@@ -18,4 +18,6 @@ mod plans;
 #[cfg(test)]
 mod records;
 #[cfg(test)]
+mod runs;
+#[cfg(test)]
 mod segments;
