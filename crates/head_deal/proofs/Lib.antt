@@ -14,4 +14,5 @@ pub mod Alone
 pub mod Shares
 pub mod Holding
 pub mod Adding
+pub mod Renewing
 pub mod Stepping

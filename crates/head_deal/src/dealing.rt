@@ -43,12 +43,12 @@ pub struct DealRefused<B> {
 /// Either way each slot and each item ends alike.
 #[derive(Drop)]
 pub struct Deal<B: Builder> {
-    tag: u64,
-    workers: usize,
-    slots: usize,
-    count: usize,
-    seats: Vec<Seat>,
-    parts: Vec<Part<B>>,
+    pub(crate) tag: u64,
+    pub(crate) workers: usize,
+    pub(crate) slots: usize,
+    pub(crate) count: usize,
+    pub(crate) seats: Vec<Seat>,
+    pub(crate) parts: Vec<Part<B>>,
 }
 
 impl<B: Builder> Model for Deal<B> {

@@ -211,8 +211,8 @@ fn note_part<B: Builder>(all: &mut Vec<B::Outcome>, part: &Part<B>)
     note_outcomes(all, &part.dues, &part.outcomes, part.workers, part.worker);
 }
 
-// The outcomes of the parts, in the order of their numbers.
-fn ordered_outcomes<B: Builder>(
+/// The outcomes of the parts, in the order of their numbers.
+pub(crate) fn ordered_outcomes<B: Builder>(
     alloc: Global,
     parts: &[Part<B>],
     count: usize,
@@ -371,7 +371,8 @@ fn prepare<B: Builder>(
     Ok((outcomes, places, builders))
 }
 
-fn counts<B: Builder>(parts: &[Part<B>]) -> (usize, usize)
+/// How many items, and how many slots, the first part says that there are in all.
+pub(crate) fn counts<B: Builder>(parts: &[Part<B>]) -> (usize, usize)
     ensures { (result.0 ≡ first_jobs parts.now) × (result.1 ≡ first_slots parts.now) }
 {
     match parts.split_first() {

@@ -13,12 +13,14 @@ ghost use Rattle.std.specs.Prelude.{◌≡◌, IfOk, OnErr, OnOk};
 
 use std::alloc::AllocError;
 
+mod again;
 mod dealing;
 mod joining;
 mod parts;
 mod seats;
 mod spread;
 
+pub use again::{Renewed, deal_again, parts_end};
 pub use dealing::{Deal, DealFault, DealRefused, deal_theorem, slots_alone};
 pub use joining::{JoinFault, JoinRefused, Joined, join_parts};
 pub use parts::{Part, run_part};

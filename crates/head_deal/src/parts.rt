@@ -153,6 +153,28 @@ impl<B: Builder> Part<B> {
     }
 }
 
+impl<B: Builder> Part<B> {
+    // Lets go of its items, under another tag. Its lists keep their room.
+    fn begin(&mut self, tag: u64)
+        ensures { self.new ≡ record self.old { tag = tag; all_jobs = 0; jobs = [] } }
+    {
+        self.tag = tag;
+        self.all_jobs = 0;
+        self.dues.clear();
+        self.outcomes.clear();
+    }
+}
+
+/// Has each part let go of its items, under another tag.
+pub(crate) fn begin_all<B: Builder>(parts: &mut Vec<Part<B>>, tag: u64)
+    ensures each { length parts.new.items ≡ length parts.old.items }
+    ensures begun { (k : ℕ) (p : _) → k < length parts.old.items → slice_index_or parts.new.items k p ≡ record (slice_index_or parts.old.items k p) { tag = tag; all_jobs = 0; jobs = [] } }
+{
+    for place in 0..parts.len() {
+        parts[place].begin(tag);
+    }
+}
+
 /// Notes in each part how many slots and items there are in all.
 pub(crate) fn count_in<B: Builder>(parts: &mut Vec<Part<B>>, slots: usize, count: usize)
     ensures each { length parts.new.items ≡ length parts.old.items }

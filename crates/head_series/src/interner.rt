@@ -149,6 +149,31 @@ impl Interner {
         Ok(number as u32)
     }
 
+    // Whether the text of that number is this one.
+    fn is_at(&self, number: u32, text: &[u8]) -> bool
+        ensures { result ≡ true → place (same_text text.now) self.now.texts ≡ Some number }
+    {
+        // for the proof, which knows the invariant where a field is named
+        let _most = self.most;
+        (number as usize) < self.len() && self.bytes(number) == text
+    }
+
+    // As `number`. The text is looked at first where it may stand.
+    fn number_near(&mut self, text: &[u8], guess: u32) -> Result<u32, InternFault>
+        ensures texts { OnOk result (self.new.texts ≡ with_text self.old.texts text.now) }
+        ensures number { IfOk result (λ n. place (same_text text.now) self.new.texts ≡ Some n) }
+        ensures within { IfOk result (λ n. n < length self.new.texts) }
+        ensures full { (result ≡ Err InternFault.Full) → (has_text self.old.texts text.now ≡ false) × (length self.old.texts ≡ self.old.most) }
+        ensures room { IsOk result → (has_text self.old.texts text.now ≡ true) ⊎ (length self.old.texts < self.old.most) }
+        ensures kept { OnErr result (self.new.texts ≡ self.old.texts) }
+        ensures most { self.new.most ≡ self.old.most }
+    {
+        if self.is_at(guess, text) {
+            return Ok(guess);
+        }
+        self.number(text)
+    }
+
     // The number of a text, which is kept if it is new. There is room for it.
     fn put(&mut self, text: Vec<u8>) -> u32
         requires room { 0 < self.old.room }
@@ -246,8 +271,13 @@ impl Interner {
         self.texts.truncate(many);
     }
 
-    // The numbers of the texts of a label set. On an error the texts stay as they were.
-    pub(crate) fn numbers(&mut self, labels: &LabelSet) -> Result<Vec<(u32, u32)>, InternFault>
+    // The numbers of the texts of a label set, each looked for first where the label set with the numbers `near` has it. On an error the texts
+    // stay as they were.
+    pub(crate) fn numbers(
+        &mut self,
+        labels: &LabelSet,
+        near: &[(u32, u32)],
+    ) -> Result<Vec<(u32, u32)>, InternFault>
         ensures texts { OnOk result (self.new.texts ≡ with_texts self.old.texts (texts_of labels.now)) }
         ensures numbers { IfOk result (λ ns. labels_in self.new.texts ns.items ≡ labels.now) }
         ensures within { IfOk result (λ ns. AreWithin (length self.new.texts) ns.items) }
@@ -258,7 +288,7 @@ impl Interner {
         ensures most { self.new.most ≡ self.old.most }
     {
         let many = self.len();
-        match self.numbers_in(labels) {
+        match self.numbers_in(labels, near) {
             Ok(numbers) => Ok(numbers),
             Err(fault) => {
                 self.truncate(many);
@@ -268,7 +298,11 @@ impl Interner {
     }
 
     // As `numbers`, but on an error there may be more texts.
-    fn numbers_in(&mut self, labels: &LabelSet) -> Result<Vec<(u32, u32)>, InternFault>
+    fn numbers_in(
+        &mut self,
+        labels: &LabelSet,
+        near: &[(u32, u32)],
+    ) -> Result<Vec<(u32, u32)>, InternFault>
         ensures texts { OnOk result (self.new.texts ≡ with_texts self.old.texts (texts_of labels.now)) }
         ensures numbers { IfOk result (λ ns. labels_in self.new.texts ns.items ≡ labels.now) }
         ensures within { IfOk result (λ ns. AreWithin (length self.new.texts) ns.items) }
@@ -277,14 +311,15 @@ impl Interner {
         ensures room { IsOk result → length self.new.texts ≤ self.old.most }
         ensures most { self.new.most ≡ self.old.most }
     {
-        let mut numbers = Vec::new(*self.texts.allocator());
+        let mut numbers = Vec::with_capacity(*self.texts.allocator(), labels.len())?;
         for i in 0..labels.len() {
             let (name, value) = labels.pair(i);
-            let first = match self.number(name) {
+            let guess = near.get(i).copied().unwrap_or((0, 0));
+            let first = match self.number_near(name, guess.0) {
                 Ok(first) => first,
                 Err(fault) => return Err(fault),
             };
-            let second = match self.number(value) {
+            let second = match self.number_near(value, guess.1) {
                 Ok(second) => second,
                 Err(fault) => return Err(fault),
             };

@@ -39,6 +39,14 @@ pub(crate) fn is_named(texts: &Interner, numbers: &[(u32, u32)], labels: &LabelS
     true
 }
 
+// The text numbers of the last series. The next one mostly has the same names, and many of the same values.
+pub(crate) fn last_numbers(rows: &[Row]) -> &[(u32, u32)] {
+    match rows.last() {
+        Some(row) => &row.numbers,
+        None => &[],
+    }
+}
+
 // One more than the slot of the last series whose label set has the hash, or 0.
 pub(crate) fn last_with(last_by_hash: &IndexMap<u64, u32>, hash: u64) -> u32
     ensures { result ≡ or_zero (lookup (nat_eq hash) last_by_hash.now.entries) }

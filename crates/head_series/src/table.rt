@@ -15,7 +15,7 @@ use crate::maps::copied;
 use crate::plan::Plan;
 use crate::ready::Ready;
 use crate::reference_slots::ReferenceSlots;
-use crate::rows::{Row, copied_rows, is_named, last_with, note_last};
+use crate::rows::{Row, copied_rows, is_named, last_numbers, last_with, note_last};
 use crate::slot::Slot;
 use indexmap::IndexMap;
 use std::alloc::{AllocError, Global};
@@ -365,7 +365,7 @@ impl SeriesTable {
         self.lower_bounds.reserve(1)?;
         self.last_by_hash.reserve(1)?;
         self.slots.reserve(reference)?;
-        let numbers = match self.texts.numbers(labels) {
+        let numbers = match self.texts.numbers(labels, last_numbers(&self.rows)) {
             Ok(numbers) => numbers,
             Err(InternFault::Full) => return Err(BindFault::Full),
             Err(InternFault::Memory) => return Err(BindFault::Memory),
