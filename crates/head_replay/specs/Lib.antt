@@ -1,4 +1,10 @@
 pub mod Applying
+pub mod Drawn
 pub mod Faults
 pub mod Jobs
-pub mod Ranges
+pub mod Progress
+pub mod RunPages
+pub mod Scanning
+pub mod Taking
+pub mod Texts
+pub mod Tickets

@@ -4,7 +4,7 @@ ghost use Rattle.std.specs.Prelude.{◌≡◌, ◌+◌, ◌^◌, ◌<◌, ◌≤
 ghost use Rattle.std.specs.Thread.{IsSync, IsSend};
 ghost use Rattle.head_replay.specs.Jobs.{AreDone};
 
-use crate::gate::Gate;
+use crate::gate::{Gate, NoGate};
 use core::thread::Stack;
 use std::alloc::AllocError;
 use std::snapshot::Snapshot;
@@ -80,6 +80,15 @@ pub(crate) struct Crew<'a, R, G> {
 impl<'a, R: Threads + Wait + Sync, G: Gate + Sync> Crew<'a, R, G> {
     pub(crate) fn new(rt: &'a R, gate: &'a G, starts: Starts) -> Crew<'a, R, G> {
         Crew { rt, gate, starts }
+    }
+
+    /// The same workers, and no gate before their jobs.
+    pub(crate) fn without_gate(&self) -> Crew<'a, R, NoGate> {
+        Crew {
+            rt: self.rt,
+            gate: &NoGate,
+            starts: self.starts,
+        }
     }
 
     /// The jobs, each taken to its end in a thread of its own, in the round `turn`. All threads that were started have ended when it

@@ -1,6 +1,6 @@
 //! Starts of threads that are refused, which no public call can bring about. The other tests go by public calls, in a crate of their own.
 
-use crate::NoGate;
+use crate::{NoGate, Options};
 use crate::crew::{Crew, Starts};
 use crate::fault::EngineFault;
 use crate::replaying::{replay_by, tally_by};
@@ -46,9 +46,13 @@ fn refused_starts(rt: HostRuntime) -> Result<(), Fail> {
             None
         };
         let crew = Crew::new(&rt, &NoGate, Starts::below(number));
-        let replayed = replay_by(&crew, alloc, &input, 7).err();
+        let options = Options {
+            workers: 7,
+            round_pages: 1,
+        };
+        let replayed = replay_by(&crew, alloc, &input, &options).err();
         assert_eq!(rt; replayed, fault, "replay with {number} starts");
-        let tallied = tally_by(&crew, alloc, &input, 7).err();
+        let tallied = tally_by(&crew, alloc, &input, &options).err();
         assert_eq!(rt; tallied, fault, "tally with {number} starts");
         let parts = fault_of_parts(&rt, alloc, Starts::below(number));
         assert_eq!(rt; parts, fault, "parts with {number} starts");

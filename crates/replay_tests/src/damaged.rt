@@ -61,8 +61,8 @@ const IN_THE_SECOND_FILE: Damage = Damage {
     kind: FaultKind::BadSum,
 };
 
-const IN_THE_FIRST_RANGE: Case = Case {
-    name: "damage in the first of two ranges",
+const IN_THE_SECOND: Case = Case {
+    name: "damage in the second of four files",
     log: Log {
         segments: &[FIRST, SECOND_DAMAGED, THIRD, FOURTH],
         ..NO_FILES
@@ -72,8 +72,8 @@ const IN_THE_FIRST_RANGE: Case = Case {
     damage: Some(IN_THE_SECOND_FILE),
 };
 
-const IN_THE_SECOND_RANGE: Case = Case {
-    name: "damage in the second of two ranges",
+const IN_THE_FOURTH: Case = Case {
+    name: "damage in the last of four files",
     log: Log {
         segments: &[FIRST, SECOND, THIRD, FOURTH_DAMAGED],
         ..NO_FILES
@@ -90,8 +90,8 @@ const IN_THE_SECOND_RANGE: Case = Case {
     }),
 };
 
-const IN_BOTH_RANGES: Case = Case {
-    name: "damage in both of two ranges",
+const IN_BOTH: Case = Case {
+    name: "damage in two of four files",
     log: Log {
         segments: &[FIRST, SECOND_DAMAGED, THIRD, FOURTH_DAMAGED],
         ..NO_FILES
@@ -156,12 +156,87 @@ const AT_THE_START: Case = Case {
     }),
 };
 
+const LAST_PART_CHANGED: Case = Case {
+    name: "a record over two pages with a byte of the second changed",
+    log: Log {
+        segments: &[&[Line::Long(39_999), Line::Changed(32_785)]],
+        ..NO_FILES
+    },
+    counts: NOTHING,
+    series: 0,
+    damage: Some(Damage {
+        place: Place {
+            in_checkpoint: false,
+            file: 0,
+            offset: 32_768,
+        },
+        kind: FaultKind::BadSum,
+    }),
+};
+
+// The file behind it is no part of the log either.
+const NEVER_ENDED: Case = Case {
+    name: "a record that begins in the last page of its file and never ends",
+    log: Log {
+        segments: &[&[Line::Long(39_999), Line::Cut(32_768)], FIRST],
+        ..NO_FILES
+    },
+    counts: NOTHING,
+    series: 0,
+    damage: Some(Damage {
+        place: Place {
+            in_checkpoint: false,
+            file: 0,
+            offset: 32_768,
+        },
+        kind: FaultKind::Torn,
+    }),
+};
+
+pub(crate) const TWO_PAGES_CHANGED: Case = Case {
+    name: "six pages with a byte of the third and one of the sixth changed",
+    log: Log {
+        segments: &[&[
+            Line::Long(32_760),
+            Line::Long(32_760),
+            Line::Long(32_760),
+            Line::Long(32_760),
+            Line::Long(32_760),
+            Line::Long(32_760),
+            Line::Changed(65_636),
+            Line::Changed(163_940),
+        ]],
+        ..NO_FILES
+    },
+    counts: Counts {
+        skipped_records: 2,
+        ..NOTHING
+    },
+    series: 0,
+    damage: Some(Damage {
+        place: Place {
+            in_checkpoint: false,
+            file: 0,
+            offset: 65_536,
+        },
+        kind: FaultKind::BadSum,
+    }),
+};
+
 #[test]
-fn damage_in_each_range(rt: HostRuntime) -> Result<(), Fail> {
+fn damage_in_several_pieces(rt: HostRuntime) -> Result<(), Fail> {
+    for case in [LAST_PART_CHANGED, NEVER_ENDED, TWO_PAGES_CHANGED] {
+        check(&rt, rt.alloc(), &case)?;
+    }
+    Ok(())
+}
+
+#[test]
+fn damage_in_each_file(rt: HostRuntime) -> Result<(), Fail> {
     for case in [
-        IN_THE_FIRST_RANGE,
-        IN_THE_SECOND_RANGE,
-        IN_BOTH_RANGES,
+        IN_THE_SECOND,
+        IN_THE_FOURTH,
+        IN_BOTH,
         BEHIND_A_CHECKPOINT,
         IN_THE_CHECKPOINT,
         AT_THE_START,

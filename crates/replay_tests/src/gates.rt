@@ -1,8 +1,12 @@
 //! Who comes to the gates of a replay, and when.
 
 use crate::cases::{WORKERS, by};
+use crate::damaged::TWO_PAGES_CHANGED;
 use crate::lines::{Line, Log, NO_FILES, input_of};
-use head_replay::{Gate, replay, tally};
+use crate::worked::TWO_PAGES;
+use head_core::replay_serial;
+use head_replay::{Gate, Options, replay, tally};
+use head_views::views;
 use std::alloc::{AllocError, Global};
 use std::process::Abort;
 use std::sync::atomic::{AtomicU64, Ordering};
@@ -196,7 +200,7 @@ fn gate_is_passed_once(rt: HostRuntime) -> Result<(), Fail> {
     Ok(())
 }
 
-// How many parts there were in the first round of items, in the second and in any other.
+// How many came in the first round, in the second and in any other.
 #[derive(Drop)]
 struct Turns {
     first: AtomicU64,
@@ -204,38 +208,124 @@ struct Turns {
     others: AtomicU64,
 }
 
-impl Gate for Turns {
-    fn pass(&self, _worker: usize, _turn: u64) {}
+impl Turns {
+    fn new() -> Turns {
+        Turns {
+            first: AtomicU64::new(0),
+            second: AtomicU64::new(0),
+            others: AtomicU64::new(0),
+        }
+    }
 
-    fn part(&self, _worker: usize, turn: u64) {
-        let parts = match turn {
+    fn note(&self, turn: u64) {
+        let came = match turn {
             0 => &self.first,
             1 => &self.second,
             _ => &self.others,
         };
-        parts.fetch_add(1, Ordering::SeqCst);
+        came.fetch_add(1, Ordering::SeqCst);
+    }
+
+    fn seen(&self) -> (u64, u64, u64) {
+        (
+            self.first.load(Ordering::SeqCst),
+            self.second.load(Ordering::SeqCst),
+            self.others.load(Ordering::SeqCst),
+        )
     }
 }
 
-// A log of 280,000 samples of one series.
-const MANY_SAMPLES: Log = Log {
-    segments: &[&[Line::Series(&[(1, b"a", b"x")])], &[Line::Pages(140)]],
-    ..NO_FILES
-};
+// A gate that notes in which rounds workers come.
+#[derive(Drop)]
+struct Noted {
+    passes: Turns,
+    parts: Turns,
+}
+
+impl Noted {
+    fn new() -> Noted {
+        Noted {
+            passes: Turns::new(),
+            parts: Turns::new(),
+        }
+    }
+}
+
+impl Gate for Noted {
+    fn pass(&self, _worker: usize, turn: u64) {
+        self.passes.note(turn);
+    }
+
+    fn part(&self, _worker: usize, turn: u64) {
+        self.parts.note(turn);
+    }
+}
 
 #[test]
-fn many_items_take_two_rounds(rt: HostRuntime) -> Result<(), Fail> {
+fn two_pages_take_two_rounds(rt: HostRuntime) -> Result<(), Fail> {
     let alloc = rt.alloc();
-    let input = input_of(alloc, MANY_SAMPLES)?;
-    let gate = Turns {
-        first: AtomicU64::new(0),
-        second: AtomicU64::new(0),
-        others: AtomicU64::new(0),
+    let input = input_of(alloc, TWO_PAGES.log)?;
+    for (round_pages, seen) in [(1, (2, 2, 0)), (2, (2, 0, 0)), (usize::MAX, (2, 0, 0))] {
+        let options = Options {
+            workers: 2,
+            round_pages,
+        };
+        let gate = Noted::new();
+        let replayed = replay(&rt, alloc, &input, &options, &gate)?;
+        assert_eq!(rt; replayed.head.counts(), TWO_PAGES.counts);
+        assert_eq!(rt; gate.passes.seen(), seen, "passes of {round_pages} pages");
+        assert_eq!(rt; gate.parts.seen(), seen, "parts of {round_pages} pages");
+    }
+    Ok(())
+}
+
+#[test]
+fn no_round_behind_the_damage(rt: HostRuntime) -> Result<(), Fail> {
+    let alloc = rt.alloc();
+    let input = input_of(alloc, TWO_PAGES_CHANGED.log)?;
+    let options = Options {
+        workers: 2,
+        round_pages: 2,
     };
-    let tallied = tally(&rt, alloc, &input, &by(2), &gate)?;
-    assert_eq!(rt; tallied.counts.accepted, 280_000);
-    assert_eq!(rt; gate.first.load(Ordering::SeqCst), 2);
-    assert_eq!(rt; gate.second.load(Ordering::SeqCst), 2);
-    assert_eq!(rt; gate.others.load(Ordering::SeqCst), 0);
+    let gate = Noted::new();
+    let tallied = tally(&rt, alloc, &input, &options, &gate)?;
+    assert_eq!(rt; tallied.damage, TWO_PAGES_CHANGED.damage);
+    assert_eq!(rt; gate.passes.seen(), (2, 2, 0));
+    assert_eq!(rt; gate.parts.seen(), (2, 2, 0));
+    Ok(())
+}
+
+// A gate that holds one worker up before it draws, long enough for the others to draw all there is.
+#[derive(Drop)]
+struct Late<C> {
+    clock: C,
+    worker: usize,
+}
+
+impl<C: Clock> Gate for Late<C> {
+    fn pass(&self, worker: usize, _turn: u64) {
+        if worker == self.worker {
+            thread::sleep(&self.clock, Duration::from_millis(20));
+        }
+    }
+
+    fn part(&self, _worker: usize, _turn: u64) {}
+}
+
+#[test]
+fn slow_worker_changes_nothing(rt: HostRuntime) -> Result<(), Fail> {
+    let alloc = rt.alloc();
+    let input = input_of(alloc, TWO_FILES)?;
+    let serial = replay_serial(alloc, &input)?;
+    let shown = views(alloc, &serial.head)?;
+    for worker in 0..3usize {
+        let gate = Late { clock: &rt, worker };
+        let replayed = replay(&rt, alloc, &input, &by(3), &gate)?;
+        assert_eq!(rt;
+            views(alloc, &replayed.head)?,
+            shown,
+            "worker {worker} is late"
+        );
+    }
     Ok(())
 }

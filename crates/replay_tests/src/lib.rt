@@ -12,4 +12,6 @@ mod lines;
 #[cfg(test)]
 mod refused;
 #[cfg(test)]
+mod tickets;
+#[cfg(test)]
 mod worked;

@@ -1,6 +1,6 @@
 //! Sound logs by several numbers of workers.
 
-use crate::cases::{Case, EMPTY_DIRECTORY, NOTHING, check};
+use crate::cases::{Case, EMPTY_DIRECTORY, NOTHING, check, check_each};
 use crate::lines::{Line, Log, NO_FILES};
 use head_core::Counts;
 use std::test::Fail;
@@ -164,7 +164,7 @@ const STALE_SAMPLES: Case = Case {
     ..EMPTY_DIRECTORY
 };
 
-const TWO_PAGES: Case = Case {
+pub(crate) const TWO_PAGES: Case = Case {
     name: "two pages of one series",
     log: Log {
         segments: &[&[
@@ -208,6 +208,69 @@ const HIDDEN_RUNS: Case = Case {
         ..NOTHING
     },
     series: 2,
+    ..EMPTY_DIRECTORY
+};
+
+const THREE_SERIES: Case = Case {
+    name: "three series",
+    log: Log {
+        segments: &[&[
+            Line::Series(&[(1, b"job", b"b"), (2, b"job", b"a"), (3, b"zone", b"c")]),
+            Line::Samples(&[
+                (1, 1000, 10),
+                (2, 2000, 20),
+                (1, 3000, 11),
+                (3, 3_600_000, 30),
+            ]),
+        ]],
+        ..NO_FILES
+    },
+    counts: Counts {
+        series_records: 1,
+        sample_records: 1,
+        series_entries: 3,
+        accepted: 4,
+        ..NOTHING
+    },
+    series: 3,
+    ..EMPTY_DIRECTORY
+};
+
+const ONE_SKIPPED: Counts = Counts {
+    skipped_records: 1,
+    ..NOTHING
+};
+
+const SPLIT_RECORD: Case = Case {
+    name: "a record over two pages",
+    log: Log {
+        segments: &[&[Line::Long(39_999)]],
+        ..NO_FILES
+    },
+    counts: ONE_SKIPPED,
+    ..EMPTY_DIRECTORY
+};
+
+const SIX_PAGES: Case = Case {
+    name: "six pages",
+    log: Log {
+        segments: &[&[Line::Long(32_760); 6]],
+        ..NO_FILES
+    },
+    counts: Counts {
+        skipped_records: 6,
+        ..NOTHING
+    },
+    ..EMPTY_DIRECTORY
+};
+
+const LONG_RECORD: Case = Case {
+    name: "a record over two hundred pages",
+    log: Log {
+        segments: &[&[Line::Long(6_552_100)]],
+        ..NO_FILES
+    },
+    counts: ONE_SKIPPED,
     ..EMPTY_DIRECTORY
 };
 
@@ -262,6 +325,7 @@ fn worked_logs(rt: HostRuntime) -> Result<(), Fail> {
         STALE_SAMPLES,
         TWO_PAGES,
         HIDDEN_RUNS,
+        THREE_SERIES,
     ] {
         check(&rt, rt.alloc(), &case)?;
     }
@@ -271,4 +335,16 @@ fn worked_logs(rt: HostRuntime) -> Result<(), Fail> {
 #[test]
 fn fewer_files_than_workers(rt: HostRuntime) -> Result<(), Fail> {
     check(&rt, rt.alloc(), &FIVE_FILES)
+}
+
+#[test]
+fn long_records(rt: HostRuntime) -> Result<(), Fail> {
+    check(&rt, rt.alloc(), &SPLIT_RECORD)?;
+    check(&rt, rt.alloc(), &SIX_PAGES)
+}
+
+// With rounds of one page, each worker comes two hundred times.
+#[test]
+fn record_over_two_hundred_pages(rt: HostRuntime) -> Result<(), Fail> {
+    check_each(&rt, rt.alloc(), &LONG_RECORD, &[2])
 }

@@ -6,7 +6,7 @@ use Rattle.head_column.specs.declared.items.Item.{Item}
 use Rattle.head_core.specs.Applied.{outcomes_after, AreCountsOfOutcomes}
 use Rattle.head_replay.specs.declared.fault.EngineFault.TheVariants.{Full}
 use Rattle.head_replay.specs.Applying.{Ends}
-use Rattle.head_replay.proofs.Parts.{all_at, no_more}
+use Rattle.head_replay.proofs.Lists.{all_at, no_more}
 use Rattle.head_replay.proofs.rounds.Rounds.deal_items.Goals as goal
 
 pub loop-slot-init : goal.loop-slot-init

@@ -1,0 +1,6 @@
+use Rattle.std.proofs.Common.{length, ◌∙◌}
+use Rattle.head_replay.proofs.rounds.run_parts.Goals as goal
+
+pub returns-clause-ended : goal.returns-clause-ended
+returns-clause-ended g c =
+    c.parts_end.ensures c.args.deal c.in-Ok.parts.items c.in_ok-finish.field-0.items c.in-Ok.ensures.of_deal.0 c.in-Ok.ensures.parts c.in_ok-finish.ensures.long c.in_ok-finish.ensures.each

@@ -1,0 +1,23 @@
+//! Numbers of pieces that workers draw.
+
+use head_replay::Claims;
+use std::test::Fail;
+
+#[test]
+fn three_tickets(rt: HostRuntime) -> Result<(), Fail> {
+    let (claims, pass) = Claims::new(rt.alloc(), 3)?;
+    let (mut one, mut other) = claims.split(pass);
+    let drawn = [
+        claims.claim(&mut one),
+        claims.claim(&mut other),
+        claims.claim(&mut one),
+    ];
+    assert_eq!(rt; drawn, [Some(0), Some(1), Some(2)]);
+    for _again in 0..2u32 {
+        assert_eq!(rt; claims.claim(&mut one), None);
+        assert_eq!(rt; claims.claim(&mut other), None);
+    }
+    let both = claims.join(one, other);
+    assert_eq!(rt; claims.close(both), 3);
+    Ok(())
+}
