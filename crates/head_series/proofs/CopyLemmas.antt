@@ -9,7 +9,6 @@ use Rattle.std.proofs.Math.Seq.{drop-cons}
 use Rattle.std.proofs.lemmas.List.{drop_all}
 use Rattle.wal_record.specs.declared.labels.Label.{Label}
 use Rattle.wal_record.specs.Labels.{IsLabelSet, IsNext, compare_labels}
-use Rattle.head_series.specs.ReferenceSlots.{ReferenceSlotsValue, slot_of}
 use Rattle.head_series.specs.Rows.{IsLast, labels_hash, labels_in, or_zero}
 use Rattle.head_series.specs.Sound.{IsSound}
 use Rattle.head_series.specs.Texts.{Text, TextTable}
@@ -35,14 +34,14 @@ put_front es n left key v e h k =
     ∙ ap (lookup (nat_eq k)) (sym (drop_at es n (key, v) h))
 
 -- a table of the same fields
-pub IsSound-alike : (t u : TextTable) (most : ℕ) (nss mss : List (List (ℕ × ℕ))) (befores cefores : List ℕ) (last_by_hash masts : List (ℕ × ℕ)) (lower_bounds ints : List ℕ) (o p : ReferenceSlotsValue) → IsSound t most nss befores last_by_hash lower_bounds o
-    → u.texts ≡ t.texts → u.most ≡ t.most → mss ≡ nss → cefores ≡ befores → ((h : ℕ) → lookup (nat_eq h) masts ≡ lookup (nat_eq h) last_by_hash) → ints ≡ lower_bounds → ((r : ℕ) → slot_of p r ≡ slot_of o r) → IsSound u most mss cefores masts ints p
-IsSound-alike t u most nss mss befores cefores last_by_hash masts lower_bounds ints o p s tu tm ns bs ls hs os =
-    subst (λ z. IsSound (table z u.most) most mss cefores masts ints p) (sym tu)
-    (subst (λ z. IsSound (table t.texts z) most mss cefores masts ints p) (sym tm)
-    (subst (λ z. IsSound (table t.texts t.most) most z cefores masts ints p) (sym ns)
-    (subst (λ z. IsSound (table t.texts t.most) most nss z masts ints p) (sym bs)
-    (subst (λ z. IsSound (table t.texts t.most) most nss befores masts z p) (sym hs)
+pub IsSound-alike : (t u : TextTable) (most : ℕ) (nss mss : List (List (ℕ × ℕ))) (befores cefores : List ℕ) (last_by_hash masts : List (ℕ × ℕ)) (many same : ℕ) → IsSound t most nss befores last_by_hash many
+    → u.texts ≡ t.texts → u.most ≡ t.most → mss ≡ nss → cefores ≡ befores → ((h : ℕ) → lookup (nat_eq h) masts ≡ lookup (nat_eq h) last_by_hash) → same ≡ many → IsSound u most mss cefores masts same
+IsSound-alike t u most nss mss befores cefores last_by_hash masts many same s tu tm ns bs ls hs =
+    subst (λ z. IsSound (table z u.most) most mss cefores masts same) (sym tu)
+    (subst (λ z. IsSound (table t.texts z) most mss cefores masts same) (sym tm)
+    (subst (λ z. IsSound (table t.texts t.most) most z cefores masts same) (sym ns)
+    (subst (λ z. IsSound (table t.texts t.most) most nss z masts same) (sym bs)
+    (subst (λ z. IsSound (table t.texts t.most) most nss befores masts z) (sym hs)
     (record {
       few = s.few;
       limit = s.limit;
@@ -50,11 +49,7 @@ IsSound-alike t u most nss mss befores cefores last_by_hash masts lower_bounds i
       distinct = s.distinct;
       ordered = s.ordered;
       befored = s.befored;
-      hinted = s.hinted;
-      below = record {
-        within = λ r n e. s.below.within r n (sym (os r) ∙ e);
-        below = λ r n e. s.below.below r n (sym (os r) ∙ e);
-      };
+      counted = s.counted;
       chained = record {
         ends = λ h. subst (IsLast (hashes t nss) (length (hashes t nss)) h) (sym (ap or_zero (ls h))) (s.chained.ends h);
         before = s.chained.before;

@@ -1,3 +1,5 @@
+pub mod HasLemmas
+pub mod KeptLemmas
 pub mod Places
 pub mod Distinct
 pub mod TextLemmas

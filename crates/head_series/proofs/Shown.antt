@@ -1,5 +1,5 @@
 -- What a table shows of the slots that it keeps.
-use Rattle.std.proofs.Common.{◌≡◌, ℕ, Option, Some, None, Result, Ok, Err, ap, sym, ◌∙◌}
+use Rattle.std.proofs.Common.{◌≡◌, ℕ, Option, Some, None, Result, Ok, Err, Bool, true, false, ap, sym, ◌∙◌, refl, eqb-true}
 use Rattle.std.specs.Prelude.{◌==◌, nat_eq, if◌then◌else◌}
 use Rattle.std.specs.Map.{lookup}
 use Rattle.std.specs.Result.{OnErr}
@@ -22,6 +22,13 @@ alike_shown t u o p e f series greatest texts most same = record {
 
 pub with_shown : (t : Table) (o p : ReferenceSlotsValue) (q s : ℕ) → pairs_of o ≡ t.slots → IsWith (slot_of o) q s (slot_of p) → (r : ℕ) → lookup (nat_eq r) (pairs_of p) ≡ (if q == r then Some s else slot_at t r)
 with_shown t o p q s e w r = shown_slot p r ∙ w r ∙ ap (λ x. if q == r then Some s else x) (sym (slot_shown t o e r))
+
+-- a reference that has the slot already
+pub kept_shown : (t : Table) (o : ReferenceSlotsValue) (q s : ℕ) → pairs_of o ≡ t.slots → slot_of o q ≡ Some s → (r : ℕ) → lookup (nat_eq r) (pairs_of o) ≡ (if q == r then Some s else slot_at t r)
+kept_shown t o q s e f = with_shown t o o q s e (λ r. same r (q == r) refl) where
+  same : (r : ℕ) (b : Bool) → (q == r) ≡ b → slot_of o r ≡ (if q == r then Some s else slot_of o r)
+  same r true g = let k : q ≡ r = eqb-true q r g in ap (slot_of o) (sym k) ∙ f ∙ sym (ap (λ b. if b then Some s else slot_of o r) g)
+  same r false g = sym (ap (λ b. if b then Some s else slot_of o r) g)
 
 pub on_err : {X E : Type 0} (r : Result X E) (P : Type 0) → P → OnErr r P
 on_err (Ok x) P h = tt

@@ -4,4 +4,8 @@ pub mod Table
 pub mod ReferenceSlots
 pub mod Bindings
 pub mod Room
+pub mod Has
+pub mod Heap
+pub mod HeapFalls
+pub mod References
 pub mod Sound

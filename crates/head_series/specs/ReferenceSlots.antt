@@ -1,5 +1,5 @@
 -- How the slots of references are kept: words of proofs, which no public contract cites.
-use Rattle.std.specs.Prelude.{◌≡◌, ℕ, zero, suc, ◌≤◌, List, [], ◌∷◌, ◌++◌, Option, None, Some, nat_eq, nat_le, nat_lt, length, filter, slice_index, take, IsTrue, if◌then◌else◌}
+use Rattle.std.specs.Prelude.{ℕ, zero, suc, List, [], ◌∷◌, ◌++◌, Option, None, Some, nat_eq, nat_le, nat_lt, length, filter, slice_index, take, IsTrue, if◌then◌else◌}
 use Rattle.std.specs.Map.{lookup}
 pub use Rattle.head_series.specs.Table.{low_end}
 
@@ -30,13 +30,3 @@ pairs_of o = low_pairs 0 (take low_end o.low) ++ filter (λ e. nat_le low_end e.
 -- there is room for the slot of the reference
 abbrev pub HasRoom : ReferenceSlotsValue → ℕ → Type 0
 HasRoom o r = IsTrue (if nat_lt r low_end then nat_lt r (length o.low) else nat_lt 0 o.room)
-
--- a reference that was found has the slot
-abbrev pub IsHigh : ReferenceSlotsValue → ℕ → Option ℕ → Type 0
-IsHigh o s None = Unit {0}
-IsHigh o s (Some q) = slot_of o q ≡ Some s
-
--- one was found that is no greater than r
-abbrev pub IsUpTo : Option ℕ → ℕ → Type 0
-IsUpTo None r = ⊥
-IsUpTo (Some q) r = q ≤ r

@@ -56,8 +56,3 @@ pub record IsChained (hashes : List ℕ) (last : ℕ → ℕ) (befores : List �
 abbrev pub or_zero : Option ℕ → ℕ
 or_zero None = 0
 or_zero (Some n) = n
-
--- the lower bound of a slot is no greater than any reference that has the slot
-pub record IsBelow (series : ℕ) (slots : ℕ → Option ℕ) (lower_bounds : List ℕ) : Type 0 where
-  pub within : (r s : ℕ) → slots r ≡ Some s → s < series
-  pub below : (r s : ℕ) → slots r ≡ Some s → slice_index lower_bounds s ≤ r

@@ -5,14 +5,17 @@
 //! or not at all, `plan` and `reserve` make room for it, and `bind_ready` then can't fail.
 #![tactic(auto)]
 
+mod candidates;
 mod comparing;
 mod hashing;
+mod heap;
 mod interner;
 mod laws;
 mod maps;
 mod plan;
 mod ready;
 mod reference_slots;
+mod references;
 mod rows;
 mod slot;
 mod table;

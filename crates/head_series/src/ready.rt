@@ -4,17 +4,19 @@ ghost use Rattle.std.specs.Prelude.{◌≡◌, ◌≤◌, [], length, map, rever
 ghost use Rattle.std.specs.Vec.{vec_capacity};
 ghost use Rattle.head_series.specs.Rows.{label};
 
+use crate::heap::Heap;
 use std::alloc::{AllocError, Global};
 use std::marker::Model;
 use wal_record::LabelSet;
 
-/// What binding a label set needs where that is new: copies of its texts, and a list with room for their numbers. Contracts
-/// see the label set.
+/// What binding a label set needs where that is new: copies of its texts, and a list with room for their numbers; and what
+/// noting the reference needs where it is not. Contracts see the label set.
 #[derive(Debug)]
 pub struct Ready {
     // the last label first
     texts: Vec<(Vec<u8>, Vec<u8>)>,
     numbers: Vec<(u32, u32)>,
+    node: Box<Heap>,
 }
 
 // Written out: where another function lets go of these, its proof has one call, and not a copy of this.
@@ -23,6 +25,7 @@ impl Drop for Ready {
         let Ready {
             texts: _texts,
             numbers: _numbers,
+            node: _node,
         } = self;
     }
 }
@@ -45,6 +48,7 @@ impl Ready {
     pub fn new(alloc: Global, labels: &LabelSet) -> Result<Ready, AllocError>
         ensures { IfOk result (λ ready. ready ≡ labels.now) }
     {
+        let node = Heap::boxed(alloc)?;
         let numbers = Vec::with_capacity(alloc, labels.len())?;
         let mut texts = Vec::with_capacity(alloc, labels.len())?;
         let mut left = labels.len();
@@ -55,7 +59,11 @@ impl Ready {
             let value = Vec::from_slice(alloc, value)?;
             texts.push((name, value))?;
         }
-        Ok(Ready { texts, numbers })
+        Ok(Ready {
+            texts,
+            numbers,
+            node,
+        })
     }
 
     // The texts, the last label first, and the list with room for their numbers.
@@ -64,7 +72,21 @@ impl Ready {
         ensures numbers { result.1.items ≡ [] }
         ensures room { length result.0.items ≤ vec_capacity result.1 }
     {
-        let Ready { texts, numbers } = self;
+        let Ready {
+            texts,
+            numbers,
+            node: _node,
+        } = self;
         (texts, numbers)
+    }
+
+    // The box for the reference.
+    pub(crate) fn into_node(self) -> Box<Heap> {
+        let Ready {
+            texts: _texts,
+            numbers: _numbers,
+            node,
+        } = self;
+        node
     }
 }

@@ -1,9 +1,9 @@
 //! The slot of each reference.
 
-ghost use Rattle.std.specs.Prelude.{◌≡◌, ◌<◌, ◌≤◌, ◌+◌, ◌^◌, ℕ, Some, None, [], length, IfOk, IfSome, IfNone, OnOk};
-ghost use Rattle.head_series.specs.ReferenceSlots.{low_end, slot_of, HasRoom, IsHigh, IsUpTo};
+ghost use Rattle.std.specs.Prelude.{◌≡◌, ◌<◌, ◌≤◌, ◌+◌, ◌^◌, ℕ, Some, None, true, false, length, IfOk, OnOk};
+ghost use Rattle.head_series.specs.ReferenceSlots.{low_end, slot_of, HasRoom};
 ghost use Rattle.head_series.specs.Room.{high_one};
-ghost use Rattle.head_series.specs.Table.{IsWith, IsLeast};
+ghost use Rattle.head_series.specs.Table.{IsWith};
 
 use crate::maps::copied;
 use indexmap::IndexMap;
@@ -69,6 +69,17 @@ impl ReferenceSlots {
         }
     }
 
+    // Whether a reference has the slot.
+    pub(crate) fn has(&self, reference: u64, slot: u32) -> bool
+        ensures yes { result ≡ true → slot_of self.now reference ≡ Some slot }
+        ensures no { result ≡ false → slot_of self.now reference ≡ Some slot → ⊥ }
+    {
+        match self.find(reference) {
+            Some(found) => found == slot,
+            None => false,
+        }
+    }
+
     // Makes room for the slot of a reference.
     pub(crate) fn reserve(&mut self, reference: u64) -> Result<(), AllocError>
         ensures same { (r : ℕ) → slot_of self.new r ≡ slot_of self.old r }
@@ -124,86 +135,5 @@ impl ReferenceSlots {
             low: Vec::from_slice(*self.low.allocator(), &self.low)?,
             high: copied(&self.high)?,
         })
-    }
-
-    // The least reference that has the slot. There is none before `from`.
-    pub(crate) fn least(&self, slot: u32, from: u64) -> Option<u64>
-        requires { (r : ℕ) → slot_of self.now r ≡ Some slot → from ≤ r }
-        ensures { IsLeast (λ r. slot_of self.now r ≡ Some slot) result }
-    {
-        match self.least_low(slot, from) {
-            Some(reference) => Some(reference),
-            None => self.least_high(slot),
-        }
-    }
-
-    // The least reference below the bound that has the slot. There is none before `from`.
-    fn least_low(&self, slot: u32, from: u64) -> Option<u64>
-        requires { (r : ℕ) → slot_of self.now r ≡ Some slot → from ≤ r }
-        ensures some { IfSome result (λ q. (slot_of self.now q ≡ Some slot) × (q < low_end) × ((r : ℕ) → slot_of self.now r ≡ Some slot → q ≤ r)) }
-        ensures none { IfNone result ((r : ℕ) → r < low_end → slot_of self.now r ≡ Some slot → ⊥) }
-    {
-        let end = self.low.len() as u64;
-        let mut reference = from;
-        while reference < end {
-            match self.find(reference) {
-                Some(found) => {
-                    if found == slot {
-                        return Some(reference);
-                    }
-                }
-                None => {}
-            }
-            reference += 1;
-        }
-        None
-    }
-
-    // The least reference from the bound on that has the slot.
-    fn least_high(&self, slot: u32) -> Option<u64>
-        ensures some { IfSome result (λ q. (slot_of self.now q ≡ Some slot) × ((r : ℕ) → low_end ≤ r → slot_of self.now r ≡ Some slot → q ≤ r)) }
-        ensures none { IfNone result ((r : ℕ) → low_end ≤ r → slot_of self.now r ≡ Some slot → ⊥) }
-    {
-        let mut least: Option<u64> = None;
-        for i in 0..self.high.len() {
-            match self.high.get_index(i) {
-                Some((reference, _)) => {
-                    let reference = *reference;
-                    least = self.lesser_of(least, reference, slot);
-                }
-                None => {}
-            }
-        }
-        least
-    }
-
-    // The lesser of these and the reference, if that is past the bound and has the slot.
-    fn lesser_of(&self, least: Option<u64>, reference: u64, slot: u32) -> Option<u64>
-        requires { IsHigh self.now slot least }
-        ensures high { IsHigh self.now slot result }
-        ensures old { (r : ℕ) → IsUpTo least r → IsUpTo result r }
-        ensures new { low_end ≤ reference → slot_of self.now reference ≡ Some slot → IsUpTo result reference }
-    {
-        if reference < LOW_END {
-            return least;
-        }
-        match self.find(reference) {
-            Some(found) => {
-                if found != slot {
-                    return least;
-                }
-            }
-            None => return least,
-        }
-        match least {
-            None => Some(reference),
-            Some(other) => {
-                if reference < other {
-                    Some(reference)
-                } else {
-                    Some(other)
-                }
-            }
-        }
     }
 }

@@ -10,11 +10,12 @@ ghost use Rattle.head_series.specs.Texts.{place, with_texts, texts_of};
 
 use crate::comparing::compare_numbers;
 use crate::hashing::hash_of;
+use crate::heap::Heap;
 use crate::interner::{InternFault, Interner};
 use crate::maps::copied;
 use crate::plan::Plan;
 use crate::ready::Ready;
-use crate::reference_slots::ReferenceSlots;
+use crate::references::References;
 use crate::rows::{Row, copied_rows, is_named, last_numbers, last_with, note_last};
 use crate::slot::Slot;
 use indexmap::IndexMap;
@@ -73,8 +74,7 @@ pub struct SeriesTable {
     texts: Interner,
     rows: Vec<Row>,
     last_by_hash: IndexMap<u64, u32>,
-    lower_bounds: Vec<u64>,
-    slots: ReferenceSlots,
+    references: References,
     greatest: Option<u64>,
     most: u32,
 }
@@ -86,8 +86,7 @@ impl Drop for SeriesTable {
             texts: _texts,
             rows: _rows,
             last_by_hash: _last_by_hash,
-            lower_bounds: _lower_bounds,
-            slots: _slots,
+            references: _references,
             greatest: _,
             most: _,
         } = self;
@@ -105,9 +104,9 @@ impl Model for SeriesTable {
 
     ghost Value = { Table };
 
-    ghost view = { λ t. record { series = map (labels_in t.texts.texts) (map (λ r. r.numbers.items) t.rows.items); slots = pairs_of t.slots; greatest = t.greatest; texts = t.texts.texts; most = t.most; room = record { rows = vec_capacity t.rows - vec_len t.rows; lower_bounds = vec_capacity t.lower_bounds - vec_len t.lower_bounds; last_by_hash = spare t.last_by_hash; texts = t.texts.room; places = length t.slots.low; high = t.slots.room } } };
+    ghost view = { λ t. record { series = map (labels_in t.texts.texts) (map (λ r. r.numbers.items) t.rows.items); slots = pairs_of t.references.slots; greatest = t.greatest; texts = t.texts.texts; most = t.most; room = record { rows = vec_capacity t.rows - vec_len t.rows; lower_bounds = t.references.room; last_by_hash = spare t.last_by_hash; texts = t.texts.room; places = length t.references.slots.low; high = t.references.slots.room } } };
 
-    ghost invariant = { λ t. IsSound t.texts t.most (map (λ r. r.numbers.items) t.rows.items) (map (λ r. r.previous) t.rows.items) t.last_by_hash.entries t.lower_bounds.items t.slots };
+    ghost invariant = { λ t. IsSound t.texts t.most (map (λ r. r.numbers.items) t.rows.items) (map (λ r. r.previous) t.rows.items) t.last_by_hash.entries t.references.series };
 }
 
 // The greatest of these and the reference.
@@ -126,14 +125,6 @@ fn with_reference(greatest: Option<u64>, reference: u64) -> Option<u64>
     }
 }
 
-// The lesser of two references.
-fn lesser(first: u64, second: u64) -> u64
-    ensures first { result ≤ first }
-    ensures second { result ≤ second }
-{
-    if first < second { first } else { second }
-}
-
 impl SeriesTable {
     /// No series yet, and at most this many, with at most as many distinct label texts.
     pub fn new(alloc: Global, most: u32) -> SeriesTable
@@ -148,8 +139,7 @@ impl SeriesTable {
             texts: Interner::new(alloc, most),
             rows: Vec::new(alloc),
             last_by_hash: IndexMap::new(alloc),
-            lower_bounds: Vec::new(alloc),
-            slots: ReferenceSlots::new(alloc),
+            references: References::new(alloc),
             greatest: None,
             most,
         }
@@ -173,7 +163,7 @@ impl SeriesTable {
         ensures slot { result ≡ slot_at self.now reference }
         ensures within { IfSome result (λ slot. slot < length self.now.series) }
     {
-        match self.slots.find(reference) {
+        match self.references.find(reference) {
             Some(slot) => Some(Slot::new(slot)),
             None => None,
         }
@@ -262,17 +252,7 @@ impl SeriesTable {
         requires { slot < length self.now.series }
         ensures { IsLeast (λ r. slot_at self.now r ≡ Some slot) result }
     {
-        let number = slot.number();
-        let lower_bound = self.lower_bounds[slot.index()];
-        match self.slots.find(lower_bound) {
-            Some(found) => {
-                if found == number {
-                    return Some(lower_bound);
-                }
-            }
-            None => {}
-        }
-        self.slots.least(number, lower_bound)
+        self.references.least(slot.number())
     }
 
     /// One more than the greatest reference that was ever bound, and 1 if none was. `None` if that was 2^64 - 1. By `within` a caller
@@ -301,8 +281,7 @@ impl SeriesTable {
         Ok(SeriesTable {
             texts: self.texts.copy()?,
             rows: copied_rows(alloc, &self.rows)?,
-            lower_bounds: Vec::from_slice(alloc, &self.lower_bounds)?,
-            slots: self.slots.copy()?,
+            references: self.references.copy()?,
             last_by_hash: copied(&self.last_by_hash)?,
             greatest: self.greatest,
             most: self.most,
@@ -319,13 +298,19 @@ impl SeriesTable {
         ensures most { self.new.most ≡ self.old.most }
         ensures kept { OnErr result (AreAlike self.old self.new) }
     {
-        self.slots.reserve(reference)?;
-        self.point_ready(reference, slot);
+        let alloc = *self.rows.allocator();
+        if self.references.has(reference, slot.number()) {
+            self.greatest = with_reference(self.greatest, reference);
+            return Ok(());
+        }
+        let node = Heap::boxed(alloc)?;
+        self.references.reserve(reference)?;
+        self.point_ready(reference, slot, node);
         Ok(())
     }
 
     // Gives a series one more reference, for whose slot there is room.
-    fn point_ready(&mut self, reference: u64, slot: Slot)
+    fn point_ready(&mut self, reference: u64, slot: Slot, node: Box<Heap>)
         requires slot { slot < length self.old.series }
         requires place { reference < low_end → reference < self.old.room.places }
         requires high { high_one reference ≤ self.old.room.high }
@@ -336,9 +321,9 @@ impl SeriesTable {
         ensures most { self.new.most ≡ self.old.most }
         ensures uses { (labels : Labels) → Uses self.old self.new (record { reference = reference; labels = labels }) }
     {
-        self.slots.set(reference, slot.number());
-        let lower_bound = lesser(self.lower_bounds[slot.index()], reference);
-        self.lower_bounds[slot.index()] = lower_bound;
+        // for the proof, which knows the invariant where a field is named
+        let _most = self.most;
+        self.references.point(reference, slot.number(), node);
         self.greatest = with_reference(self.greatest, reference);
     }
 
@@ -362,9 +347,9 @@ impl SeriesTable {
         }
         let slot = slot as u32;
         self.rows.reserve(1)?;
-        self.lower_bounds.reserve(1)?;
+        self.references.reserve_series(1)?;
         self.last_by_hash.reserve(1)?;
-        self.slots.reserve(reference)?;
+        self.references.reserve(reference)?;
         let numbers = match self.texts.numbers(labels, last_numbers(&self.rows)) {
             Ok(numbers) => numbers,
             Err(InternFault::Full) => return Err(BindFault::Full),
@@ -374,8 +359,7 @@ impl SeriesTable {
         let previous = last_with(&self.last_by_hash, hash);
         note_last(&mut self.last_by_hash, hash, slot + 1);
         self.rows.push_reserved(Row { numbers, previous });
-        self.lower_bounds.push_reserved(reference);
-        self.slots.set(reference, slot);
+        self.references.push(reference);
         self.greatest = with_reference(self.greatest, reference);
         Ok(Slot::new(slot))
     }
@@ -401,8 +385,7 @@ impl SeriesTable {
         let previous = last_with(&self.last_by_hash, hash);
         note_last(&mut self.last_by_hash, hash, number + 1);
         self.rows.push_reserved(Row { numbers, previous });
-        self.lower_bounds.push_reserved(reference);
-        self.slots.set(reference, number);
+        self.references.push(reference);
         self.greatest = with_reference(self.greatest, reference);
         Slot::new(number)
     }
@@ -527,10 +510,10 @@ impl SeriesTable {
         ensures high { OnOk result (plan.now.high ≤ self.new.room.high) }
     {
         self.rows.reserve(plan.bindings)?;
-        self.lower_bounds.reserve(plan.bindings)?;
+        self.references.reserve_series(plan.bindings)?;
         self.last_by_hash.reserve(plan.bindings)?;
         self.texts.reserve(plan.texts_most)?;
-        self.slots.make_room(reference, plan.high)?;
+        self.references.make_room(reference, plan.high)?;
         Ok(())
     }
 
@@ -554,7 +537,7 @@ impl SeriesTable {
     {
         match self.find_labels(labels) {
             Some(slot) => {
-                self.point_ready(reference, slot);
+                self.point_ready(reference, slot, ready.into_node());
                 let created = false;
                 Bound { slot, created }
             }

@@ -37,6 +37,8 @@ mod lines;
 #[cfg(test)]
 mod postings;
 #[cfg(test)]
+mod references;
+#[cfg(test)]
 mod replays;
 #[cfg(test)]
 mod rooms;

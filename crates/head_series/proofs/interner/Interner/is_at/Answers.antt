@@ -1,4 +1,4 @@
-use Rattle.std.proofs.Common.{rules, ◌≡◌, ap, sym, subst, ◌∙◌, Some, true}
+use Rattle.std.proofs.Common.{rules, ◌≡◌, ap, sym, subst, ◌∙◌, Some}
 use Rattle.wal_record.specs.Labels.{same_text}
 use Rattle.head_series.specs.Rows.{AreDistinct}
 use Rattle.head_series.proofs.Distinct.{place_at}

@@ -1,6 +1,5 @@
-use Rattle.std.proofs.Common.{◌≡◌, sym, inl, true, Some}
+use Rattle.std.proofs.Common.{sym, inl}
 use Rattle.wal_record.specs.Labels.{same_text}
-use Rattle.head_series.specs.Texts.{place}
 use Rattle.head_series.proofs.Places.{place_some, place_within, with_text_old}
 use Rattle.head_series.proofs.interner.Interner.number_near.Goals as goal
 

@@ -1,5 +1,5 @@
 use Rattle.std.proofs.Common.{◌≡◌, Some, ap, sym, ◌∙◌, ◌++◌, ◌∷◌, [], arith, length, refl}
-use Rattle.std.specs.Prelude.{◌==◌, if◌then◌else◌}
+use Rattle.std.specs.Prelude.{map, ◌==◌, if◌then◌else◌}
 use Rattle.std.proofs.lemmas.List.{length-map}
 use Rattle.head_series.specs.Bindings.{Binding}
 use Rattle.head_series.specs.Texts.{with_texts, texts_of}
@@ -21,12 +21,12 @@ invariant_of-self c =
     let below = (room_new c.args.self.now b c.requires.room c.requires.new).0 in
     let counted : c.len-number.result ≡ length c.self.inside.rows.items = c.len-number.ensures ∙ c.self.inside.rows.ok.0 in
     let made = created c.self.inside.texts c.put_all-numbers.new.self (texts_of c.args.labels.now) c.self.inside.most c.self.inside.rows.items c.push_reserved.new.self.items row
-    c.self.inside.last_by_hash.entries c.self.inside.last_by_hash.entries c.note_last.new.last_by_hash.entries c.self.inside.lower_bounds.items c.push_reserved-2.new.self.items
-    c.self.inside.slots c.self.inside.slots c.set.new.self c.args.labels.now c.args.reference c.hash_of-hash.result c.len-number.result
+    c.self.inside.last_by_hash.entries c.self.inside.last_by_hash.entries c.note_last.new.last_by_hash.entries c.self.inside.references.series c.push.new.self.series
+    c.args.labels.now c.hash_of-hash.result c.len-number.result
     c.self.invariant (c.put_all-numbers.ensures.texts ∙ ap (λ ls. with_texts c.self.inside.texts.texts (texts_of ls)) c.requires.ready) c.put_all-numbers.ensures.most c.put_all-numbers.ensures.within (c.put_all-numbers.ensures.numbers ∙ c.requires.ready)
     counted (omega (arith, below, counted, many, most)) c.hash_of-hash.ensures.ordered (ap (λ z. has_series z c.args.labels.now) seen ∙ c.requires.new) c.hash_of-hash.ensures.hash
-    refl c.last_with-previous.ensures c.note_last.ensures.lasts (λ q. refl) c.set.ensures.with
-    c.push_reserved.ensures.items c.push_reserved-2.ensures.items in
+    refl c.last_with-previous.ensures c.note_last.ensures.lasts
+    c.push_reserved.ensures.items c.push.ensures.series in
     made.1
 
 pub returns-clause-series : goal.returns-clause-series
@@ -39,15 +39,17 @@ returns-clause-series c =
     let below = (room_new c.args.self.now b c.requires.room c.requires.new).0 in
     let counted : c.len-number.result ≡ length c.self.inside.rows.items = c.len-number.ensures ∙ c.self.inside.rows.ok.0 in
     let made = created c.self.inside.texts c.put_all-numbers.new.self (texts_of c.args.labels.now) c.self.inside.most c.self.inside.rows.items c.push_reserved.new.self.items row
-    c.self.inside.last_by_hash.entries c.self.inside.last_by_hash.entries c.note_last.new.last_by_hash.entries c.self.inside.lower_bounds.items c.push_reserved-2.new.self.items
-    c.self.inside.slots c.self.inside.slots c.set.new.self c.args.labels.now c.args.reference c.hash_of-hash.result c.len-number.result
+    c.self.inside.last_by_hash.entries c.self.inside.last_by_hash.entries c.note_last.new.last_by_hash.entries c.self.inside.references.series c.push.new.self.series
+    c.args.labels.now c.hash_of-hash.result c.len-number.result
     c.self.invariant (c.put_all-numbers.ensures.texts ∙ ap (λ ls. with_texts c.self.inside.texts.texts (texts_of ls)) c.requires.ready) c.put_all-numbers.ensures.most c.put_all-numbers.ensures.within (c.put_all-numbers.ensures.numbers ∙ c.requires.ready)
     counted (omega (arith, below, counted, many, most)) c.hash_of-hash.ensures.ordered (ap (λ z. has_series z c.args.labels.now) seen ∙ c.requires.new) c.hash_of-hash.ensures.hash
-    refl c.last_with-previous.ensures c.note_last.ensures.lasts (λ q. refl) c.set.ensures.with
-    c.push_reserved.ensures.items c.push_reserved-2.ensures.items in
+    refl c.last_with-previous.ensures c.note_last.ensures.lasts
+    c.push_reserved.ensures.items c.push.ensures.series in
     made.0 ∙ ap (λ z. z ++ c.args.labels.now ∷ []) seen
 
 pub returns-clause-slots : goal.returns-clause-slots
 returns-clause-slots c =
-    with_shown c.args.self.now c.self.inside.slots c.set.new.self c.args.reference c.new.result (ap (λ t. t.slots) c.self.view_is)
-    (λ q. c.set.ensures.with q ∙ ap (λ n. if c.args.reference == q then Some n else slot_of c.self.inside.slots q) (sym c.new.ensures))
+    let many : length (map (λ (r : Row). r.numbers.items) c.self.inside.rows.items) ≡ length c.self.inside.rows.items = (simp length-map) in
+    let at : c.self.inside.references.series ≡ c.new.result = omega (arith, many, c.self.invariant.counted, c.len-number.ensures, c.self.inside.rows.ok.0, c.new.ensures) in
+    with_shown c.args.self.now c.self.inside.references.slots c.push.new.self.slots c.args.reference c.new.result (ap (λ t. t.slots) c.self.view_is)
+    (λ q. c.push.ensures.with q ∙ ap (λ n. if c.args.reference == q then Some n else slot_of c.self.inside.references.slots q) at)

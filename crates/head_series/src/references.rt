@@ -1,0 +1,192 @@
+//! The slot of each reference, and the least reference of each slot.
+
+ghost use Rattle.std.specs.Prelude.{◌≡◌, ◌<◌, ◌≤◌, ◌+◌, ◌^◌, ℕ, Some, None, true, length, IfOk, IfSome, OnOk};
+ghost use Rattle.head_series.specs.ReferenceSlots.{low_end, slot_of};
+ghost use Rattle.head_series.specs.Room.{high_one};
+ghost use Rattle.head_series.specs.Table.{IsWith, IsLeast};
+
+use crate::candidates::Candidates;
+use crate::heap::Heap;
+use crate::reference_slots::ReferenceSlots;
+use std::alloc::{AllocError, Global};
+use std::marker::Model;
+
+/// The slot of each reference, and for each series what its least reference is found by: the references that it was bound
+/// to, less those that are known to be another's. Contracts see the slots, how many series there are, and how many more go
+/// in without memory.
+#[derive(Debug)]
+pub(crate) struct References {
+    slots: ReferenceSlots,
+    candidates: Vec<Candidates>,
+}
+
+// Written out: where another function lets go of these, its proof has one call, and not a copy of this.
+impl Drop for References {
+    fn drop(self) {
+        let References {
+            slots: _slots,
+            candidates: _candidates,
+        } = self;
+    }
+}
+
+impl Model for References {
+    ghost use Rattle.std.specs.Prelude.{◌-◌, length};
+    ghost use Rattle.std.specs.Vec.{vec_capacity, vec_len};
+    ghost use Rattle.head_series.specs.ReferenceSlots.{slot_of};
+    ghost use Rattle.head_series.specs.References.{ReferencesValue, AreKept};
+
+    ghost Value = { ReferencesValue };
+
+    ghost view = { λ o. record { slots = o.slots; series = length o.candidates.items; room = vec_capacity o.candidates - vec_len o.candidates } };
+
+    ghost invariant = { λ o. AreKept (slot_of o.slots) o.candidates.items };
+}
+
+impl References {
+    // No series, and no reference has a slot.
+    pub(crate) fn new(alloc: Global) -> References
+        ensures slots { (r : ℕ) → slot_of result.slots r ≡ None }
+        ensures series { result.series ≡ 0 }
+    {
+        References {
+            slots: ReferenceSlots::new(alloc),
+            candidates: Vec::new(alloc),
+        }
+    }
+
+    // The slot of a reference.
+    pub(crate) fn find(&self, reference: u64) -> Option<u32>
+        ensures slot { result ≡ slot_of self.now.slots reference }
+        ensures within { IfSome result (λ slot. slot < self.now.series) }
+    {
+        // for the proof, which knows the invariant where a field is named
+        let _series = self.candidates.len();
+        self.slots.find(reference)
+    }
+
+    // Whether a reference has the slot.
+    pub(crate) fn has(&self, reference: u64, slot: u32) -> bool
+        ensures yes { result ≡ true → slot_of self.now.slots reference ≡ Some slot }
+    {
+        self.slots.has(reference, slot)
+    }
+
+    // The least reference that has the slot.
+    pub(crate) fn least(&self, slot: u32) -> Option<u64>
+        requires { slot < self.now.series }
+        ensures { IsLeast (λ r. slot_of self.now.slots r ≡ Some slot) result }
+    {
+        let least = self.candidates[slot as usize].least();
+        if self.slots.has(least, slot) {
+            Some(least)
+        } else {
+            None
+        }
+    }
+
+    // Makes room for the references of this many more series.
+    pub(crate) fn reserve_series(&mut self, many: usize) -> Result<(), AllocError>
+        ensures slots { self.new.slots ≡ self.old.slots }
+        ensures series { self.new.series ≡ self.old.series }
+        ensures room { OnOk result (many ≤ self.new.room) }
+    {
+        self.candidates.reserve(many)
+    }
+
+    // Makes room for the slot of a reference.
+    pub(crate) fn reserve(&mut self, reference: u64) -> Result<(), AllocError>
+        ensures same { (r : ℕ) → slot_of self.new.slots r ≡ slot_of self.old.slots r }
+        ensures series { self.new.series ≡ self.old.series }
+        ensures left { self.new.room ≡ self.old.room }
+        ensures place { OnOk result (reference < low_end → reference < length self.new.slots.low) }
+        ensures high { OnOk result (high_one reference ≤ self.new.slots.room) }
+    {
+        // for the proof, which knows the invariant where a field is named
+        let _series = self.candidates.len();
+        self.slots.reserve(reference)
+    }
+
+    // Makes a place for the slot of a reference below the bound, and room for those of this many from the bound on.
+    pub(crate) fn make_room(&mut self, reference: u64, many: usize) -> Result<(), AllocError>
+        ensures same { (r : ℕ) → slot_of self.new.slots r ≡ slot_of self.old.slots r }
+        ensures series { self.new.series ≡ self.old.series }
+        ensures left { self.new.room ≡ self.old.room }
+        ensures place { OnOk result (reference < low_end → reference < length self.new.slots.low) }
+        ensures places { length self.old.slots.low ≤ length self.new.slots.low }
+        ensures room { OnOk result (many ≤ self.new.slots.room) }
+    {
+        // for the proof, which knows the invariant where a field is named
+        let _series = self.candidates.len();
+        self.slots.make_room(reference, many)
+    }
+
+    // Gives a reference the slot of a series, in a box that was made for it.
+    pub(crate) fn point(&mut self, reference: u64, slot: u32, node: Box<Heap>)
+        requires slot { slot < self.old.series }
+        requires place { reference < low_end → reference < length self.old.slots.low }
+        requires high { high_one reference ≤ self.old.slots.room }
+        requires small { slot + 1 < 2 ^ 32 }
+        ensures with { IsWith (slot_of self.old.slots) reference slot (slot_of self.new.slots) }
+        ensures series { self.new.series ≡ self.old.series }
+        ensures room { self.new.room ≡ self.old.room }
+        ensures places { length self.new.slots.low ≡ length self.old.slots.low }
+        ensures left { self.old.slots.room ≤ self.new.slots.room + high_one reference }
+    {
+        let old = self.slots.find(reference);
+        self.slots.set(reference, slot);
+        self.candidates[slot as usize].add(reference, node);
+        self.candidates[slot as usize].settle(&self.slots, slot);
+        match old {
+            Some(old) => self.candidates[old as usize].settle(&self.slots, old),
+            None => {}
+        }
+    }
+
+    // Gives a reference the slot of a new series.
+    pub(crate) fn push(&mut self, reference: u64)
+        requires series { 0 < self.old.room }
+        requires place { reference < low_end → reference < length self.old.slots.low }
+        requires high { high_one reference ≤ self.old.slots.room }
+        requires small { self.old.series + 1 < 2 ^ 32 }
+        ensures with { IsWith (slot_of self.old.slots) reference self.old.series (slot_of self.new.slots) }
+        ensures series { self.new.series ≡ self.old.series + 1 }
+        ensures room { self.old.room ≤ self.new.room + 1 }
+        ensures places { length self.new.slots.low ≡ length self.old.slots.low }
+        ensures left { self.old.slots.room ≤ self.new.slots.room + high_one reference }
+    {
+        let old = self.slots.find(reference);
+        let series = self.candidates.len() as u32;
+        self.slots.set(reference, series);
+        self.candidates.push_reserved(Candidates::new(reference));
+        match old {
+            Some(old) => self.candidates[old as usize].settle(&self.slots, old),
+            None => {}
+        }
+    }
+
+    // The same references, in memory of their own.
+    pub(crate) fn copy(&self) -> Result<References, AllocError>
+        ensures slots { IfOk result (λ copy. (r : ℕ) → slot_of copy.slots r ≡ slot_of self.now.slots r) }
+        ensures series { IfOk result (λ copy. copy.series ≡ self.now.series) }
+    {
+        let alloc = *self.candidates.allocator();
+        let slots = self.slots.copy()?;
+        let candidates = copied_candidates(alloc, &self.candidates)?;
+        Ok(References { slots, candidates })
+    }
+}
+
+// The same lists of references, in memory of their own.
+fn copied_candidates(
+    alloc: Global,
+    candidates: &[Candidates],
+) -> Result<Vec<Candidates>, AllocError>
+    ensures { IfOk result (λ copy. copy.items ≡ candidates.now) }
+{
+    let mut copy = Vec::with_capacity(alloc, candidates.len())?;
+    for one in candidates {
+        copy.push(one.copy(alloc)?)?;
+    }
+    Ok(copy)
+}
