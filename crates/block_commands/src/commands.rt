@@ -4,7 +4,7 @@ use crate::blocks::block;
 use crate::cutting::{CutRequest, cut_hour};
 use crate::ranges::ranges;
 use head_replay::Options;
-use prom_commands::{Answer, Fault, Store};
+use prom_commands::{Answer, Fault, Progress, Store};
 use std::alloc::Global;
 use std::sync::Wait;
 use std::thread::Threads;
@@ -20,27 +20,29 @@ pub enum BlockRequest<'a> {
     Block { path: &'a str },
 }
 
-fn execute<R: Threads + Wait + Sync, S: Store>(
+fn execute<R: Threads + Wait + Sync, S: Store, P: Progress + Sync>(
     rt: &R,
     alloc: Global,
     store: &mut S,
+    progress: &P,
     request: BlockRequest<'_>,
 ) -> Result<Answer, Fault> {
     match request {
-        BlockRequest::Ranges { dir, options } => ranges(rt, alloc, store, dir, &options),
-        BlockRequest::Cut(request) => cut_hour(rt, alloc, store, request),
+        BlockRequest::Ranges { dir, options } => ranges(rt, alloc, store, progress, dir, &options),
+        BlockRequest::Cut(request) => cut_hour(rt, alloc, store, progress, request),
         BlockRequest::Block { path } => block(alloc, store, path),
     }
 }
 
 /// Carries out what was asked for. A block is made in as many threads as `rt` has processors.
-pub fn carry_out_block<R: Threads + Wait + Sync, S: Store>(
+pub fn carry_out_block<R: Threads + Wait + Sync, S: Store, P: Progress + Sync>(
     rt: &R,
     alloc: Global,
     store: &mut S,
+    progress: &P,
     request: BlockRequest<'_>,
 ) -> Answer {
-    match execute(rt, alloc, store, request) {
+    match execute(rt, alloc, store, progress, request) {
         Ok(answer) => answer,
         Err(fault) => Answer::failed(alloc, fault),
     }

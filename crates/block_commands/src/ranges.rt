@@ -4,8 +4,8 @@ ghost use Rattle.std.specs.Prelude.{◌≡◌, false};
 
 use crate::report::ranges_text;
 use block_cut::full_ranges;
-use head_replay::{NoGate, Options, Replayed, replay};
-use prom_commands::{Answer, Fault, Store, read_log};
+use head_replay::{Options, Replayed, replay};
+use prom_commands::{Answer, Fault, Progress, Store, extent_of, read_log};
 use std::alloc::Global;
 use std::sync::Wait;
 use std::thread::Threads;
@@ -20,14 +20,17 @@ fn listed(alloc: Global, replayed: &Replayed) -> Result<Answer, Fault>
 }
 
 /// Lists the full hours of the log in a directory, as far as it is not damaged.
-pub fn ranges<R: Threads + Wait + Sync, S: Store>(
+pub fn ranges<R: Threads + Wait + Sync, S: Store, P: Progress + Sync>(
     rt: &R,
     alloc: Global,
     store: &mut S,
+    progress: &P,
     dir: &str,
     options: &Options,
 ) -> Result<Answer, Fault> {
     let input = read_log(alloc, store, dir)?;
-    let replayed = replay(rt, alloc, &input, options, &NoGate)?;
-    listed(alloc, &replayed)
+    progress.begin(&extent_of(&input, options));
+    let replayed = replay(rt, alloc, &input, options, progress);
+    progress.end();
+    listed(alloc, &replayed?)
 }

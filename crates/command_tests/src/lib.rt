@@ -18,6 +18,8 @@ mod fragments;
 #[cfg(test)]
 mod listing;
 #[cfg(test)]
+mod meters;
+#[cfg(test)]
 mod replays;
 #[cfg(test)]
 mod runs;

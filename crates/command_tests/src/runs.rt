@@ -2,7 +2,7 @@
 
 use crate::shelf::Shelf;
 use block_commands::{BlockRequest, carry_out_block};
-use head_replay::Options;
+use head_replay::{NoGate, Options};
 use live_commands::{AppendRequest, carry_out_append};
 use prom_commands::{Answer, Request, Store, StoreFault, carry_out};
 use std::alloc::{AllocError, Global};
@@ -159,7 +159,7 @@ pub fn assert_one_run<R: Abort + Threads + Wait + Sync + AllocGlobal>(
     request: Request<'_>,
     want: (u8, &str, &str),
 ) -> Result<(), AllocError> {
-    let answer = carry_out(rt, rt.alloc(), shelf, request);
+    let answer = carry_out(rt, rt.alloc(), shelf, &NoGate, request);
     assert_answer(rt, case, &answer, want)
 }
 
@@ -185,7 +185,7 @@ pub fn assert_block_run<R: Abort + Threads + Wait + Sync + AllocGlobal>(
     request: BlockRequest<'_>,
     want: (u8, &str, &str),
 ) -> Result<(), AllocError> {
-    let answer = carry_out_block(rt, rt.alloc(), shelf, request);
+    let answer = carry_out_block(rt, rt.alloc(), shelf, &NoGate, request);
     assert_answer(rt, case, &answer, want)
 }
 
@@ -197,7 +197,7 @@ pub fn assert_append_run<R: Abort + Threads + Wait + Sync + AllocGlobal>(
     request: AppendRequest<'_>,
     want: (u8, &str, &str),
 ) -> Result<(), AllocError> {
-    let answer = carry_out_append(rt, rt.alloc(), shelf, request);
+    let answer = carry_out_append(rt, rt.alloc(), shelf, &NoGate, request);
     assert_answer(rt, case, &answer, want)
 }
 

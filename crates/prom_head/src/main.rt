@@ -9,13 +9,14 @@ mod tests;
 
 use crate::fault::LineFault;
 use crate::program::run;
-use prom_commands::{Answer, Disk, Fault, Status};
+use prom_commands::{Answer, Disk, Fault, Meter, Status};
 use std::env;
-use std::io::ErrorKind;
+use std::io::{ErrorKind, IsTerminal};
 use std::process::ExitCode;
 use std::rt::{Env, Files};
 use std::sync::Wait;
 use std::thread::Threads;
+use std::time::Clock;
 
 // The words of the command line, the program's own name first.
 fn arguments<R: Env + AllocGlobal>(rt: &R) -> Result<Vec<String>, LineFault> {
@@ -53,15 +54,16 @@ fn show<R: Print + Eprint>(rt: &R, answer: &Answer) -> Status {
 }
 
 // Runs the program on real files.
-fn run_here<R: Env + Files + AllocGlobal + Threads + Wait + Sync + Clone + Drop>(
+fn run_here<R: Env + Files + Clock + Eprint + AllocGlobal + Threads + Wait + Sync + Clone + Drop>(
     rt: &R,
+    is_terminal: bool,
 ) -> Result<Answer, LineFault> {
     let words = arguments(rt)?;
-    run(rt, &mut Disk::new(rt), &words)
+    run(rt, &mut Disk::new(rt), &Meter::new(rt, is_terminal), &words)
 }
 
 fn main(rt: HostRuntime) -> ExitCode {
-    let status = match run_here(&rt) {
+    let status = match run_here(&rt, rt.stderr().is_terminal()) {
         Ok(answer) => show(&rt, &answer),
         Err(fault) => refuse(&rt, &fault),
     };

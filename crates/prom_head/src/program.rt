@@ -4,21 +4,22 @@ use crate::fault::LineFault;
 use crate::options::{Asked, parse};
 use block_commands::carry_out_block;
 use live_commands::carry_out_append;
-use prom_commands::{Answer, Status, Store, carry_out};
+use prom_commands::{Answer, Progress, Status, Store, carry_out};
 use std::sync::Wait;
 use std::thread::Threads;
 
-/// Runs the program on these words, its own name first. A store is asked for nothing where the words are refused.
-pub fn run<R: AllocGlobal + Threads + Wait + Sync, S: Store>(
+/// Runs the program on these words, its own name first. `progress` is told how far a replay is. A store is asked for nothing where the words are refused.
+pub fn run<R: AllocGlobal + Threads + Wait + Sync, S: Store, P: Progress + Sync>(
     rt: &R,
     store: &mut S,
+    progress: &P,
     words: &[String],
 ) -> Result<Answer, LineFault> {
     let alloc = rt.alloc();
     match parse(alloc, words) {
-        Ok(Asked::OfLog(request)) => Ok(carry_out(rt, alloc, store, request)),
-        Ok(Asked::OfBlocks(request)) => Ok(carry_out_block(rt, alloc, store, request)),
-        Ok(Asked::Append(request)) => Ok(carry_out_append(rt, alloc, store, request)),
+        Ok(Asked::OfLog(request)) => Ok(carry_out(rt, alloc, store, progress, request)),
+        Ok(Asked::OfBlocks(request)) => Ok(carry_out_block(rt, alloc, store, progress, request)),
+        Ok(Asked::Append(request)) => Ok(carry_out_append(rt, alloc, store, progress, request)),
         Err(error) if error.use_stderr() => Err(LineFault::from(error)),
         Err(help) => Ok(Answer::done(help.to_string(alloc)?, Status::Done)),
     }

@@ -4,7 +4,7 @@ use crate::fault::LineFault;
 use crate::options::{Asked, parse};
 use crate::program::run;
 use block_commands::{BlockRequest, CutRequest};
-use head_replay::Options;
+use head_replay::{NoGate, Options};
 use live_commands::AppendRequest;
 use prom_commands::{Answer, Request, Store, StoreFault};
 use std::alloc::{AllocError, Global};
@@ -105,7 +105,7 @@ fn run_line<R: Abort + Threads + Wait + Sync + AllocGlobal>(
 ) -> Result<(u8, String), AllocError> {
     let words = words(rt.alloc(), line)?;
     let mut store = Untouched { was_asked: false };
-    let ending = run(rt, &mut store, &words);
+    let ending = run(rt, &mut store, &NoGate, &words);
     same(rt, line, store.was_asked, false);
     told(rt.alloc(), &ending)
 }
@@ -410,7 +410,7 @@ fn requests(rt: HostRuntime) -> Result<(), AllocError> {
     ] {
         let words = words(rt.alloc(), line)?;
         let mut store = Untouched { was_asked: false };
-        let ending = run(&rt, &mut store, &words);
+        let ending = run(&rt, &mut store, &NoGate, &words);
         same(&rt, line, (store.was_asked, ending.is_ok()), (true, true));
     }
     Ok(())

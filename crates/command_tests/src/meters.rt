@@ -1,0 +1,203 @@
+//! The line on a terminal that says how far a replay is.
+
+use crate::fragments::{SAMPLES_1_AT_1000_1015, SERIES_1_JOB_API};
+use crate::runs::{same, shelf_with};
+use head_replay::{Gate, NoGate, Options};
+use prom_commands::{Extent, Meter, Progress, Request, StoreFault, carry_out};
+use std::alloc::Global;
+use std::cell::{Cell, RefCell};
+use std::fmt::Display;
+use std::io::ErrorKind;
+use std::sync::atomic::{AtomicU64, Ordering};
+use std::time::{Clock, Duration};
+use std::{io, mem};
+
+// A terminal that keeps what is said, with a clock that is set by hand.
+#[derive(Drop)]
+struct Terminal {
+    now: Cell<u64>,
+    said: RefCell<String>,
+}
+
+impl Terminal {
+    fn new(alloc: Global) -> Terminal {
+        Terminal {
+            now: Cell::new(5_000),
+            said: RefCell::new(String::new(alloc)),
+        }
+    }
+
+    fn wait(&self, milliseconds: u64) {
+        self.now.set(self.now.get().saturating_add(milliseconds));
+    }
+
+    // What was said since this was asked last.
+    fn take(&self, alloc: Global) -> String {
+        match self.said.try_borrow_mut() {
+            Ok(mut said) => mem::replace(&mut *said, String::new(alloc)),
+            Err(_) => String::new(alloc),
+        }
+    }
+}
+
+impl Clock for Terminal {
+    fn monotonic(&self) -> io::Result<Duration> {
+        Ok(Duration::from_millis(self.now.get()))
+    }
+
+    fn since_1970(&self) -> io::Result<Duration> {
+        self.monotonic()
+    }
+}
+
+impl Eprint for Terminal {
+    fn eprint<D: Display + Drop>(&self, value: D) -> io::Result<()> {
+        let Ok(mut said) = self.said.try_borrow_mut() else {
+            return Err(io::Error::from(ErrorKind::Other));
+        };
+        match write!(said, "{value}") {
+            Ok(()) => Ok(()),
+            Err(_) => Err(io::Error::from(ErrorKind::OutOfMemory)),
+        }
+    }
+
+    fn eprintln<D: Display + Drop>(&self, value: D) -> io::Result<()> {
+        self.eprint(value)
+    }
+}
+
+// A log of 4,000 pages and one byte, in rounds of 256.
+const LOG: Extent = Extent {
+    pages: 4_001,
+    bytes: 131_072_001,
+    round_pages: 256,
+};
+
+// Which round begins, how many milliseconds after the one before, and what is said then.
+const STEPS: [(u64, u64, &str); 7] = [
+    (0, 0, ""),
+    (1, 99, ""),
+    (2, 1, "\r512 of 4001 pages, 16 of 131 MB, 0:00 left\x1b[K"),
+    (3, 99, ""),
+    (
+        4,
+        9_801,
+        "\r1024 of 4001 pages, 33 of 131 MB, 0:29 left\x1b[K",
+    ),
+    (
+        8,
+        200_000,
+        "\r2048 of 4001 pages, 67 of 131 MB, 3:20 left\x1b[K",
+    ),
+    (
+        16,
+        100,
+        "\r4001 of 4001 pages, 131 of 131 MB, 0:00 left\x1b[K",
+    ),
+];
+
+// The first worker alone is listened to.
+#[test]
+fn says_how_far_a_replay_is(rt: HostRuntime) {
+    let alloc = rt.alloc();
+    let terminal = Terminal::new(alloc);
+    let meter = Meter::new(&terminal, true);
+    meter.begin(&LOG);
+    for (turn, waited, want) in STEPS {
+        terminal.wait(waited);
+        meter.pass(1, turn);
+        meter.part(0, turn);
+        meter.pass(0, turn);
+        same(&rt, turn, terminal.take(alloc).as_str(), want);
+    }
+    meter.end();
+    same(&rt, "the end", terminal.take(alloc).as_str(), "\r\x1b[K");
+    terminal.wait(1_000);
+    meter.pass(0, 17);
+    meter.end();
+    same(&rt, "no replay", terminal.take(alloc).as_str(), "");
+}
+
+// A short replay says nothing, and so does one whose standard error is no terminal.
+#[test]
+fn says_nothing(rt: HostRuntime) {
+    let alloc = rt.alloc();
+    let terminal = Terminal::new(alloc);
+    for (is_terminal, waited) in [(true, 99), (false, 1_000)] {
+        let meter = Meter::new(&terminal, is_terminal);
+        meter.begin(&LOG);
+        meter.pass(0, 0);
+        terminal.wait(waited);
+        meter.pass(0, 1);
+        meter.end();
+    }
+    same(&rt, "nothing", terminal.take(alloc).as_str(), "");
+}
+
+// A terminal that takes nothing, with a clock that goes on by a second whenever it is looked at.
+#[derive(Drop)]
+struct Closed {
+    seconds: AtomicU64,
+    writes: AtomicU64,
+}
+
+impl Clock for Closed {
+    fn monotonic(&self) -> io::Result<Duration> {
+        let seconds = self.seconds.fetch_add(1, Ordering::SeqCst);
+        Ok(Duration::from_secs(seconds))
+    }
+
+    fn since_1970(&self) -> io::Result<Duration> {
+        self.monotonic()
+    }
+}
+
+impl Eprint for Closed {
+    fn eprint<D: Display + Drop>(&self, _value: D) -> io::Result<()> {
+        self.writes.fetch_add(1, Ordering::SeqCst);
+        Err(io::Error::from(ErrorKind::BrokenPipe))
+    }
+
+    fn eprintln<D: Display + Drop>(&self, value: D) -> io::Result<()> {
+        self.eprint(value)
+    }
+}
+
+const REPLAY_BY_PAGES: Request<'static> = Request::Replay {
+    dir: "log",
+    options: Options {
+        workers: 2,
+        round_pages: 1,
+    },
+};
+
+// A line that cannot be written is tried again with the next, and a command leaves what it leaves without a terminal.
+#[test]
+fn goes_on_where_nothing_can_be_written(rt: HostRuntime) -> Result<(), StoreFault> {
+    let alloc = rt.alloc();
+    let terminal = Closed {
+        seconds: AtomicU64::new(0),
+        writes: AtomicU64::new(0),
+    };
+    let meter = Meter::new(&terminal, true);
+    meter.begin(&LOG);
+    meter.pass(0, 1);
+    meter.pass(0, 2);
+    meter.end();
+    same(&rt, "writes", terminal.writes.load(Ordering::SeqCst), 3);
+    let files: [(&str, &[u8]); 3] = [
+        ("00000000", SERIES_1_JOB_API),
+        ("00000001", SAMPLES_1_AT_1000_1015),
+        ("00000002", SAMPLES_1_AT_1000_1015),
+    ];
+    let mut shelf = shelf_with(alloc, &files)?;
+    let want = carry_out(&rt, alloc, &mut shelf, &NoGate, REPLAY_BY_PAGES);
+    let found = carry_out(&rt, alloc, &mut shelf, &meter, REPLAY_BY_PAGES);
+    let (found, want) = (
+        (found.status as u8, found.printed.as_str()),
+        (want.status as u8, want.printed.as_str()),
+    );
+    same(&rt, "a replay", found, want);
+    same(&rt, "a replay", want.0, 0);
+    Ok(())
+}

@@ -1,0 +1,58 @@
+//! How far a replay is.
+
+ghost use Rattle.std.specs.Prelude.{◌≡◌, length};
+ghost use Rattle.std.specs.List.{sum_by};
+ghost use Rattle.std.specs.Io.Iter.{u64_saturate};
+ghost use Rattle.wal_log.specs.Inputs.{total_len};
+ghost use Rattle.wal_log.specs.Runs.{log_pages};
+
+use head_replay::{Gate, NoGate, Options};
+use wal_log::{Input, Segment, pages};
+
+/// How much there is to replay.
+#[derive(Clone, Copy, Debug, PartialEq, Eq)]
+pub struct Extent {
+    pub pages: u64,
+    pub bytes: u64,
+    /// How many pages are taken in a round.
+    pub round_pages: u64,
+}
+
+/// A gate that is told when a replay begins and when it ends, so that it can say how far it is.
+pub trait Progress: Gate {
+    /// So much is going to be replayed.
+    fn begin(&self, extent: &Extent);
+
+    /// The replay has come to its end, or was refused.
+    fn end(&self);
+}
+
+impl Progress for NoGate {
+    fn begin(&self, _extent: &Extent) {}
+
+    fn end(&self) {}
+}
+
+// How many bytes files have together, as a count of 64 bits.
+fn bytes_of(files: &[Segment]) -> u64
+    ensures { result ≡ u64_saturate (sum_by (λ s. length s.bytes) files.now) }
+{
+    let mut bytes: u64 = 0;
+    for file in files {
+        bytes = bytes.saturating_add(file.bytes.len() as u64);
+    }
+    bytes
+}
+
+/// How much there is of a log, and in what rounds it is replayed.
+pub fn extent_of(input: &Input, options: &Options) -> Extent
+    ensures pages { result.pages ≡ length (log_pages input.now) }
+    ensures bytes { result.bytes ≡ u64_saturate (total_len input.now) }
+    ensures rounds { result.round_pages ≡ options.now.round_pages }
+{
+    Extent {
+        pages: pages(input),
+        bytes: bytes_of(input.checkpoint_files()).saturating_add(bytes_of(input.segments())),
+        round_pages: options.round_pages as u64,
+    }
+}
