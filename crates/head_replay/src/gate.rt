@@ -6,8 +6,7 @@ pub trait Gate {
     /// Each worker calls it once in a round, before its first piece of the log. Rounds are counted from 0.
     fn pass(&self, worker: usize, turn: u64);
 
-    /// Each worker calls it before it runs its part of the items that were dealt: once for each 262,144 of them, and once for the rest.
-    /// These rounds of items are counted from 0.
+    /// Each worker calls it once in a round, before it runs its part of the items that the round's records brought.
     fn part(&self, worker: usize, turn: u64);
 }
 

@@ -1,10 +1,10 @@
 //! Starts of threads that are refused, which no public call can bring about. The other tests go by public calls, in a crate of their own.
 
-use crate::{NoGate, Options};
 use crate::crew::{Crew, Starts};
 use crate::fault::EngineFault;
 use crate::replaying::{replay_by, tally_by};
 use crate::rounds::Rounds;
+use crate::{NoGate, Options};
 use head_column::Column;
 use head_core::Counts;
 use std::alloc::{AllocError, Global};

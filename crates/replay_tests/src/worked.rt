@@ -338,8 +338,12 @@ fn fewer_files_than_workers(rt: HostRuntime) -> Result<(), Fail> {
 }
 
 #[test]
-fn long_records(rt: HostRuntime) -> Result<(), Fail> {
-    check(&rt, rt.alloc(), &SPLIT_RECORD)?;
+fn split_record(rt: HostRuntime) -> Result<(), Fail> {
+    check(&rt, rt.alloc(), &SPLIT_RECORD)
+}
+
+#[test]
+fn six_pages(rt: HostRuntime) -> Result<(), Fail> {
     check(&rt, rt.alloc(), &SIX_PAGES)
 }
 

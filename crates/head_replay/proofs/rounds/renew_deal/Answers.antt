@@ -1,5 +1,4 @@
-use Rattle.std.proofs.Common.{rules, ◌≡◌, ◌∙◌, ◌++◌, [], Err, List, length, sym, ap, subst}
-use Rattle.head_deal.specs.Dealing.{Dealing}
+use Rattle.std.proofs.Common.{rules, ◌≡◌, ◌∙◌, ◌++◌, Err, List, sym, ap, subst}
 use Rattle.head_core.specs.declared.fault.HeadFault.TheVariants as head
 use Rattle.head_column.specs.declared.items.Outcome.{Outcome}
 use Rattle.head_core.specs.Applied.{AreCountsOfOutcomes}

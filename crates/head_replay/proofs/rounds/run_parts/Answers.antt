@@ -1,4 +1,3 @@
-use Rattle.std.proofs.Common.{length, ◌∙◌}
 use Rattle.head_replay.proofs.rounds.run_parts.Goals as goal
 
 pub returns-clause-ended : goal.returns-clause-ended
