@@ -15,4 +15,5 @@ pub mod Shares
 pub mod Holding
 pub mod Adding
 pub mod Renewing
+pub mod Counting
 pub mod Stepping

@@ -57,6 +57,13 @@ impl<B: Builder> Part<B> {
         self.worker
     }
 
+    /// What became of the items that are done, in the order in which they were dealt.
+    pub fn outcomes(&self) -> &[B::Outcome]
+        ensures { result.now ≡ outcomes self.now.jobs }
+    {
+        &self.outcomes
+    }
+
     fn is_of(&self, worker: usize) -> bool
         ensures { result ≡ (self.now.worker == worker) }
     {
@@ -211,8 +218,8 @@ fn note_part<B: Builder>(all: &mut Vec<B::Outcome>, part: &Part<B>)
     note_outcomes(all, &part.dues, &part.outcomes, part.workers, part.worker);
 }
 
-/// The outcomes of the parts, in the order of their numbers.
-pub(crate) fn ordered_outcomes<B: Builder>(
+// The outcomes of the parts, in the order of their numbers.
+fn ordered_outcomes<B: Builder>(
     alloc: Global,
     parts: &[Part<B>],
     count: usize,

@@ -20,7 +20,7 @@ mod parts;
 mod seats;
 mod spread;
 
-pub use again::{Renewed, deal_again, parts_end};
+pub use again::{deal_again, outcomes_in_parts, parts_end};
 pub use dealing::{Deal, DealFault, DealRefused, deal_theorem, slots_alone};
 pub use joining::{JoinFault, JoinRefused, Joined, join_parts};
 pub use parts::{Part, run_part};
