@@ -1,8 +1,10 @@
 -- Outcomes counted one after another.
-use Rattle.std.proofs.Common.{◌≡◌, ℕ, suc, ◌+◌, ◌<◌, ◌^◌, List, [], ◌∷◌, ◌++◌, length, take, drop, refl, sym, ap, subst, ◌∙◌, arith, append_assoc}
+use Rattle.std.proofs.Common.{◌≡◌, ℕ, suc, ◌+◌, ◌<◌, ◌^◌, Bool, List, [], ◌∷◌, ◌++◌, length, take, drop, refl, sym, ap, subst, ◌∙◌, arith, append_assoc}
 use Rattle.std.specs.Prelude.{map, count_by, cond, slice_index_or}
-use Rattle.std.proofs.lemmas.List.{map-append, take-append-drop, drop_more}
-use Rattle.std.proofs.lemmas.List.Sums.{sum_by-append}
+use Rattle.std.specs.List.{flat_map}
+use Rattle.std.proofs.lemmas.Grind.{flat_map-append}
+use Rattle.std.proofs.lemmas.List.{map-append, take-append-drop, drop_more, flat_map_more, take_more}
+use Rattle.std.proofs.lemmas.List.Sums.{sum_by-append, sum_by-cons}
 use Rattle.std.proofs.Math.Seq.{take-suc}
 use Rattle.head_column.specs.declared.items.Outcome.{Outcome}
 use Rattle.head_column.specs.declared.items.Outcome.TheVariants as outcome
@@ -111,3 +113,59 @@ over_at before xs more i o c all lt h full k w =
     ∙ ap (λ (os : List Outcome). os ++ more) (sym (append_assoc before (take i xs) (x ∷ drop (i + 1) xs)) ∙ sym (append_assoc (before ++ take i xs) (x ∷ []) (drop (i + 1) xs)))
     ∙ append_assoc ((before ++ take i xs) ++ x ∷ []) (drop (i + 1) xs) more in
     over x (before ++ take i xs) (drop (i + 1) xs ++ more) c all h full (subst (λ (os : List Outcome). AreCountsOfOutcomes os all) split k) w
+
+-- ---- outcomes in another order
+
+-- as many of both pass any test
+abbrev pub Alike : List Outcome → List Outcome → Type 0
+Alike os ps = (test : Outcome → Bool) → count_by test os ≡ count_by test ps
+
+pub alike_back : (os ps : List Outcome) → Alike os ps → Alike ps os
+alike_back os ps alike test = sym (alike test)
+
+pub alike_behind : (before os ps : List Outcome) → Alike os ps → Alike (before ++ os) (before ++ ps)
+alike_behind before os ps alike test =
+    let one : Outcome → ℕ = λ o. cond (test o) 1 0 in
+    sum_by-append one before os ∙ ap (λ (n : ℕ). count_by test before + n) (alike test) ∙ sym (sum_by-append one before ps)
+
+pub alike_before : (os ps more : List Outcome) → Alike os ps → Alike (os ++ more) (ps ++ more)
+alike_before os ps more alike test =
+    let one : Outcome → ℕ = λ o. cond (test o) 1 0 in
+    sum_by-append one os more ∙ ap (λ (n : ℕ). n + count_by test more) (alike test) ∙ sym (sum_by-append one ps more)
+
+count_mapped : {A B : Type 0} (test : B → Bool) (g : A → B) (xs : List A) → count_by test (map g xs) ≡ count_by (λ x. test (g x)) xs
+count_mapped test g [] = refl
+count_mapped test g (x ∷ xs) =
+    sum_by-cons (λ y. cond (test y) 1 0) (g x) (map g xs)
+    ∙ ap (λ (n : ℕ). cond (test (g x)) 1 0 + n) (count_mapped test g xs)
+    ∙ sym (sum_by-cons (λ y. cond (test (g y)) 1 0) x xs)
+
+many_alike : (f : Fate) (os ps : List Outcome) → Alike os ps → many f os ≡ many f ps
+many_alike f os ps alike = count_mapped (is_fate f) fate_of os ∙ alike (λ o. is_fate f (fate_of o)) ∙ sym (count_mapped (is_fate f) fate_of ps)
+
+-- counts do not tell an order
+pub counts_alike : (os ps : List Outcome) (c : Counts) → Alike os ps → AreCountsOfOutcomes os c → AreCountsOfOutcomes ps c
+counts_alike os ps c alike h = record {
+  accepted = h.accepted ∙ many_alike accepted os ps alike;
+  stale = h.stale ∙ many_alike stale os ps alike;
+  hiding = h.hiding ∙ many_alike hides os ps alike;
+  empty_stones = h.empty_stones ∙ many_alike empty_stone os ps alike;
+}
+
+-- ---- outcomes of one part after another
+
+-- those of one part more
+pub parts_more : {P : Type 0} (f : P → List Outcome) (before : List Outcome) (ps : List P) (i : ℕ) (p : P) → i < length ps
+    → (before ++ flat_map f (take i ps)) ++ f (slice_index_or ps i p) ≡ before ++ flat_map f (take (i + 1) ps)
+parts_more {P} f before ps i p lt = flat_map_more f before (take i ps) (slice_index_or ps i p) ∙ ap (λ (qs : List P). before ++ flat_map f qs) (sym (take_more ps i p lt))
+
+-- those of all parts are those before a part, its own, and those behind it
+pub parts_split : {P : Type 0} (f : P → List Outcome) (before more : List Outcome) (ps : List P) (i : ℕ) (p : P) → i < length ps
+    → (before ++ flat_map f ps) ++ more ≡ ((before ++ flat_map f (take i ps)) ++ f (slice_index_or ps i p)) ++ (flat_map f (drop (i + 1) ps) ++ more)
+parts_split {P} f before more ps i p lt =
+    let rest : List Outcome = flat_map f (drop (i + 1) ps) in
+    ap (λ (qs : List P). (before ++ flat_map f qs) ++ more) (sym (take-append-drop (i + 1) ps))
+    ∙ ap (λ (os : List Outcome). (before ++ os) ++ more) (flat_map-append f (take (i + 1) ps) (drop (i + 1) ps))
+    ∙ ap (λ (os : List Outcome). os ++ more) (sym (append_assoc before (flat_map f (take (i + 1) ps)) rest))
+    ∙ ap (λ (os : List Outcome). (os ++ rest) ++ more) (sym (parts_more f before ps i p lt))
+    ∙ append_assoc ((before ++ flat_map f (take i ps)) ++ f (slice_index_or ps i p)) rest more
