@@ -6,6 +6,7 @@ pub mod Items
 pub mod Lists
 pub mod Made
 pub mod PageByPage
+pub mod Partial
 pub mod RecordByRecord
 pub mod Shares
 pub mod Slots

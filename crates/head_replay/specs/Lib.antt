@@ -2,6 +2,7 @@ pub mod Applying
 pub mod Drawn
 pub mod Faults
 pub mod Jobs
+pub mod Partial
 pub mod Progress
 pub mod RunPages
 pub mod Scanning

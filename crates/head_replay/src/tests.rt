@@ -2,11 +2,13 @@
 
 use crate::crew::{Crew, Starts};
 use crate::fault::EngineFault;
+use crate::postings::postings_by;
 use crate::replaying::{replay_by, tally_by};
 use crate::rounds::Rounds;
 use crate::{NoGate, Options};
 use head_column::Column;
 use head_core::Counts;
+use head_series::SeriesTable;
 use std::alloc::{AllocError, Global};
 use std::process::Abort;
 use std::sync::Wait;
@@ -35,6 +37,20 @@ fn fault_of_parts<R: Threads + Wait + Sync>(
     }
 }
 
+// The fault of the postings that seven workers list of no series, of whom only the first so many may start.
+fn fault_of_postings<R: Threads + Wait + Sync>(
+    rt: &R,
+    alloc: Global,
+    starts: Starts,
+) -> Option<EngineFault> {
+    let crew = Crew::new(rt, &NoGate, starts);
+    let table = SeriesTable::new(alloc, 1);
+    match postings_by(&crew, alloc, 7, &table) {
+        Ok(_) => None,
+        Err(fault) => Some(fault.into()),
+    }
+}
+
 #[test]
 fn refused_starts(rt: HostRuntime) -> Result<(), Fail> {
     let alloc = rt.alloc();
@@ -56,6 +72,8 @@ fn refused_starts(rt: HostRuntime) -> Result<(), Fail> {
         assert_eq!(rt; tallied, fault, "tally with {number} starts");
         let parts = fault_of_parts(&rt, alloc, Starts::below(number));
         assert_eq!(rt; parts, fault, "parts with {number} starts");
+        let postings = fault_of_postings(&rt, alloc, Starts::below(number));
+        assert_eq!(rt; postings, fault, "postings with {number} starts");
     }
     Ok(())
 }

@@ -1,0 +1,21 @@
+use Rattle.std.proofs.Common.{◌≡◌, ◌+◌, ℕ, List, vec_len, subst, arith}
+use Rattle.head_series.specs.Table.{Labels}
+use Rattle.head_postings.specs.Postings.{IsPostingsOf}
+use Rattle.head_core.specs.Content.{by_slot}
+use Rattle.head_replay.specs.Partial.{belonging}
+use Rattle.head_replay.proofs.Partial.{all_belong, all_listed}
+use Rattle.head_replay.proofs.postings.postings_by.Goals as goal
+
+pub returns : goal.returns
+returns g c =
+    let workers = c.args.workers in
+    let sets = by_slot c.args.table.now.series in
+    let jobs = c.in_ok-jobs.jobs.items in
+    let listed = c.in_ok-listed.listed.items in
+    let merged = c.in_ok-merge_all.ensures.postings workers 0 c.args.table.now.series (all_listed workers 0 c.args.table.now jobs listed c.in_ok-jobs.ensures.each c.in_ok-listed.ensures) in
+    let many : 0 + vec_len c.in_ok-listed.listed ≡ workers = omega (arith, c.in_ok-listed.ensures.long, c.in_ok-jobs.ensures.count) in
+    record {
+      postings =
+          subst (λ (sets : List (ℕ × Labels)). IsPostingsOf sets c.in_ok-merge_all.field-0) (all_belong workers sets c.requires.some)
+          (subst (λ (end : ℕ). IsPostingsOf (belonging workers 0 end sets) c.in_ok-merge_all.field-0) many merged);
+    }

@@ -1,0 +1,124 @@
+//! The series of each label, listed by workers.
+
+ghost use Rattle.std.specs.Prelude.{◌≡◌, ◌+◌, ◌<◌, ◌≤◌, ℕ, List, IfOk, vec_len};
+ghost use Rattle.head_postings.specs.Postings.{IsPostingsOf, Labels};
+ghost use Rattle.head_core.specs.Content.{by_slot};
+ghost use Rattle.head_replay.specs.Partial.{belonging, AreNumbered};
+
+use crate::crew::{Crew, CrewFault, Job};
+use crate::gate::Gate;
+use head_postings::Postings;
+use head_series::{SeriesTable, Slot};
+use std::alloc::{AllocError, Global};
+use std::sync::Wait;
+use std::thread::Threads;
+
+// The postings of a worker's slots: those with its number modulo the number of workers.
+fn partial(
+    alloc: Global,
+    worker: usize,
+    workers: usize,
+    table: &SeriesTable,
+) -> Result<Postings, AllocError>
+    requires one { worker < workers }
+    requires most { workers ≤ 64 }
+    ensures postings { IfOk result (λ postings. IsPostingsOf (belonging workers worker (worker + 1) (by_slot table.now.series)) postings) }
+{
+    let mut postings = Postings::new(alloc);
+    let mut number = worker;
+    while number < table.len() {
+        let slot = Slot::new(number as u32);
+        postings.add(slot, &table.labels(slot)?)?;
+        number += workers;
+    }
+    Ok(postings)
+}
+
+/// The postings of a worker's slots, once it has listed them.
+#[derive(Drop)]
+pub(crate) struct Listing<'t> {
+    alloc: Global,
+    worker: usize,
+    workers: usize,
+    table: &'t SeriesTable,
+    postings: Postings,
+    ghost one: { worker < workers },
+    ghost most: { workers ≤ 64 },
+}
+
+impl<'t> Job for Listing<'t> {
+    ghost done = { λ old new. IsPostingsOf (belonging old.workers old.worker (old.worker + 1) (by_slot old.table.now.series)) new.postings };
+
+    // no gate stands before these
+    fn enter<G: Gate>(_gate: &G, _worker: usize, _turn: u64) {}
+
+    fn finish(&mut self) -> Result<(), AllocError> {
+        self.postings = partial(self.alloc, self.worker, self.workers, self.table)?;
+        Ok(())
+    }
+}
+
+// A job for each worker, in order.
+fn listings<'t>(
+    alloc: Global,
+    workers: usize,
+    table: &'t SeriesTable,
+) -> Result<Vec<Listing<'t>>, AllocError>
+    requires most { workers ≤ 64 }
+    ensures each { IfOk result (λ jobs. AreNumbered (λ worker job. (job.worker ≡ worker) × (job.workers ≡ workers) × (job.table.now ≡ table.now)) 0 jobs.items) }
+    ensures count { IfOk result (λ jobs. vec_len jobs ≡ workers) }
+{
+    let mut jobs = Vec::with_capacity(alloc, workers)?;
+    for worker in 0..workers {
+        let postings = Postings::new(alloc);
+        jobs.push(Listing {
+            alloc,
+            worker,
+            workers,
+            table,
+            postings,
+        })?;
+    }
+    Ok(jobs)
+}
+
+// The postings of the one job, or none.
+fn only(alloc: Global, mut jobs: Vec<Listing<'_>>) -> Postings
+    requires one { vec_len jobs ≤ 1 }
+    ensures postings { (workers first : ℕ) (series : List Labels) → AreNumbered (λ worker job. IsPostingsOf (belonging workers worker (worker + 1) (by_slot series)) job.postings) first jobs.entry.items → IsPostingsOf (belonging workers first (first + vec_len jobs.entry) (by_slot series)) result }
+{
+    match jobs.pop() {
+        Some(job) => job.postings,
+        None => Postings::new(alloc),
+    }
+}
+
+// The postings of all jobs. They are merged by halving, so that none is walked more often than the number of jobs has bits.
+fn merge_all(alloc: Global, mut jobs: Vec<Listing<'_>>) -> Result<Postings, AllocError>
+    ensures postings { (workers first : ℕ) (series : List Labels) → AreNumbered (λ worker job. IsPostingsOf (belonging workers worker (worker + 1) (by_slot series)) job.postings) first jobs.entry.items → IfOk result (λ postings. IsPostingsOf (belonging workers first (first + vec_len jobs.entry) (by_slot series)) postings) }
+{
+    if jobs.len() <= 1 {
+        return Ok(only(alloc, jobs));
+    }
+    let half = jobs.len() / 2;
+    let rest = jobs.split_off(half)?;
+    let low = merge_all(alloc, jobs)?;
+    let high = merge_all(alloc, rest)?;
+    low.merge(high)
+}
+
+/// The slots of each label of a table: each worker lists its own slots, and what they listed is merged.
+pub(crate) fn postings_by<R: Threads + Wait + Sync, G: Gate + Sync>(
+    crew: &Crew<'_, R, G>,
+    alloc: Global,
+    workers: usize,
+    table: &SeriesTable,
+) -> Result<Postings, CrewFault>
+    requires some { 0 < workers }
+    requires most { workers ≤ 64 }
+    ensures postings { IfOk result (λ postings. IsPostingsOf (by_slot table.now.series) postings) }
+{
+    let jobs = listings(alloc, workers, table)?;
+    let listed = crew.without_gate().finish(0, jobs)?;
+    Ok(merge_all(alloc, listed)?)
+}
