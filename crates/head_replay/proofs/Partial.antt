@@ -24,10 +24,7 @@ other_rest n k w some few same = at (cases_lt (n / w) ((n + k) / w)) where
   at (inl h) = let up : n / w + 1 ≤ (n + k) / w = omega arith in omega (arith, mul-le-mul_left w up)
   at (inr h) = omega (arith, mul-le-mul_left w h)
 
--- whether a worker is from the first up to the end
-is_from : ℕ → ℕ → ℕ → Bool
-is_from first end worker = nat_le first worker && nat_lt worker end
-
+-- what the test of a worker answers
 itself : (w : ℕ) → (nat_le w w && nat_lt w (w + 1)) ≡ true
 itself w = grind (arith, nat_tests)
 
