@@ -1,6 +1,6 @@
 -- Plain facts of lists.
-use Rattle.std.proofs.Common.{◌≡◌, suc, true, false, List, [], ◌∷◌, ◌++◌, length, Option, Some, None, refl, arith}
-use Rattle.std.specs.Prelude.{All, is_some}
+use Rattle.std.proofs.Common.{◌≡◌, ℕ, zero, suc, true, false, List, [], ◌∷◌, ◌++◌, length, take, drop, Option, Some, None, refl, arith}
+use Rattle.std.specs.Prelude.{All, is_some, IfOk, Result, Ok, Err}
 use Rattle.std.specs.List.{AllByRecursion}
 
 pub no_more : {A : Type 0} (xs : List A) → length xs ≡ 0 → xs ≡ []
@@ -20,6 +20,17 @@ pub all_push : {A : Type 0} (P : A → Type 0) (xs : List A) (x : A) → AllByRe
 all_push P [] x h k = (k, tt)
 all_push P (y ∷ xs) x h k = (h.0, all_push P xs x h.1 k)
 
+-- the first so many, and those behind them
+pub all_take : {A : Type 0} (P : A → Type 0) (n : ℕ) (xs : List A) → AllByRecursion P xs → AllByRecursion P (take n xs)
+all_take P zero xs h = tt
+all_take P (suc n) [] h = tt
+all_take P (suc n) (x ∷ xs) h = (h.0, all_take P n xs h.1)
+
+pub all_drop : {A : Type 0} (P : A → Type 0) (n : ℕ) (xs : List A) → AllByRecursion P xs → AllByRecursion P (drop n xs)
+all_drop P zero xs h = h
+all_drop P (suc n) [] h = tt
+all_drop P (suc n) (x ∷ xs) h = all_drop P n xs h.1
+
 pub none_there : {A : Type 0} (o : Option A) → is_some o ≡ false → o ≡ None
 none_there None e = refl
 none_there (Some x) e = absurd cc
@@ -27,3 +38,8 @@ none_there (Some x) e = absurd cc
 pub some_there : {A : Type 0} (o : Option A) → is_some o ≡ true → o ≡ None → ⊥
 some_there None e k = cc
 some_there (Some x) e k = cc
+
+-- the last of four facts of what came
+pub last_of_four : {A E : Type 0} (P Q R S : A → Type 0) (r : Result A E) → IfOk r (λ x. P x × Q x × R x × S x) → IfOk r S
+last_of_four P Q R S (Ok x) h = h.3
+last_of_four P Q R S (Err e) h = h

@@ -59,8 +59,8 @@ impl Starts {
         Starts { below: number }
     }
 
-    // The stack of a thread. No thread can have one as large as that which is refused.
-    fn stack(self, number: usize) -> Stack {
+    /// The stack of a thread. No thread can have one as large as that which is refused.
+    pub(crate) fn stack(self, number: usize) -> Stack {
         if number < self.below {
             Stack::new()
         } else {
@@ -91,6 +91,16 @@ impl<'a, R: Threads + Wait + Sync, G: Gate + Sync> Crew<'a, R, G> {
         }
     }
 
+    /// What gives leave to start threads, and to wait for them.
+    pub(crate) fn rt(&self) -> &'a R {
+        self.rt
+    }
+
+    /// Which threads may start.
+    pub(crate) fn starts(&self) -> Starts {
+        self.starts
+    }
+
     /// The jobs, each taken to its end in a thread of its own, in the round `turn`. All threads that were started have ended when it
     /// answers.
     pub(crate) fn finish<J: Job + Send + Drop>(
@@ -105,9 +115,9 @@ impl<'a, R: Threads + Wait + Sync, G: Gate + Sync> Crew<'a, R, G> {
     }
 }
 
-// What is known of the jobs that a thread gives back.
+/// What is known of the jobs that a thread gives back.
 #[derive(Drop)]
-struct Finishes<J>(Snapshot<Vec<J>>);
+pub(crate) struct Finishes<J>(pub(crate) Snapshot<Vec<J>>);
 
 impl<J: Job> Promise<Result<Vec<J>, CrewFault>> for Finishes<J> {
     ghost use Rattle.std.specs.Prelude.{IfOk};
@@ -185,6 +195,19 @@ fn finish_from<J: Job + Send + Drop, G: Gate + Sync, R: Threads + Wait + Sync>(
             put_together(low, high)
         },
     )
+}
+
+/// The same, where no gate stands before the jobs.
+pub(crate) fn finish_here<J: Job + Send + Drop, R: Threads + Wait + Sync>(
+    rt: &R,
+    starts: Starts,
+    turn: u64,
+    jobs: Vec<J>,
+) -> Result<Vec<J>, CrewFault>
+    requires { vec_len jobs ≤ 64 }
+    ensures { IfOk result (λ after. AreDone J.done jobs.items after.items) }
+{
+    finish_from(rt, starts, &NoGate, turn, 0, jobs)
 }
 
 // The same, where this thread only waits.
