@@ -6,6 +6,7 @@ pub mod Partial
 pub mod Progress
 pub mod RunPages
 pub mod Scanning
+pub mod Standing
 pub mod Taking
 pub mod Texts
 pub mod Tickets

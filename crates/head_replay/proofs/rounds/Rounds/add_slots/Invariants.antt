@@ -2,7 +2,7 @@ use Rattle.std.proofs.Common.{◌≡◌, ◌<◌, ◌≤◌, ◌-◌, ℕ, List,
 use Rattle.std.specs.Prelude.{All}
 use Rattle.std.specs.List.{enumerate_from}
 use Rattle.head_column.specs.declared.items.Item.{Item}
-use Rattle.head_replay.specs.Applying.{Ends}
+use Rattle.head_replay.specs.Standing.{HasDealt}
 use Rattle.head_replay.proofs.rounds.Rounds.add_slots.Given as goal
 
 abbrev pub decreases-loop-alloc : goal.decreases-loop-alloc
@@ -14,5 +14,5 @@ invariant-loop-alloc g l =
     × (length l.fn.self.deal.builders ≤ length l.self.deal.builders)
     × (l.self.deal.workers ≡ l.fn.self.deal.workers)
     × ((items : List (ℕ × Item)) → All (λ k. k.0 < length l.fn.self.deal.builders) items
-    → Ends g.B.Builder.value g.B.Builder.after g.B.Builder.outcome (enumerate_from 0 (replicate (length l.fn.self.deal.builders) (g.B.Builder.value g.B.SeriesBuilder.blank))) items l.fn.self.deal l.fn.self.counts
-    → Ends g.B.Builder.value g.B.Builder.after g.B.Builder.outcome (enumerate_from 0 (replicate (length l.self.deal.builders) (g.B.Builder.value g.B.SeriesBuilder.blank))) items l.self.deal l.self.counts)
+    → HasDealt g.B.Builder.value g.B.Builder.after g.B.Builder.outcome (enumerate_from 0 (replicate (length l.fn.self.deal.builders) (g.B.Builder.value g.B.SeriesBuilder.blank))) items l.fn.self
+    → HasDealt g.B.Builder.value g.B.Builder.after g.B.Builder.outcome (enumerate_from 0 (replicate (length l.self.deal.builders) (g.B.Builder.value g.B.SeriesBuilder.blank))) items l.self)
