@@ -67,6 +67,7 @@ impl Names {
                 let key = Vec::from_slice(alloc, name)?;
                 let mut values = Values::new(alloc);
                 values.push(value, slot)?;
+                values.trim();
                 self.values.insert(key, values)?;
                 Ok(())
             }
@@ -131,6 +132,7 @@ impl Names {
                 let key = Vec::from_slice(alloc, name)?;
                 let mut values = Values::new(alloc);
                 values.make_room(value, more)?;
+                values.trim();
                 self.values.insert(key, values)?;
                 Ok(())
             }

@@ -40,6 +40,13 @@ impl Values {
         }
     }
 
+    // Gives back the room for further values. A map makes room for nine at once, and a name may have one alone.
+    pub(crate) fn trim(&mut self)
+        ensures { self.new ≡ self.old }
+    {
+        self.lists.shrink_to_fit();
+    }
+
     // The slots of a value.
     pub(crate) fn find(&self, value: &[u8]) -> &[Slot]
         ensures { result.now ≡ listed self.now.slots value.now }

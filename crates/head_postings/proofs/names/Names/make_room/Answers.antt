@@ -77,11 +77,11 @@ returns-in_ok-insert-in-None-clause-same c =
     let es = c.self.inside.values.entries in
     let now = c.args.self.now in
     let slots = ap named_slots c.self.view_is in
-    let w = c.make_room-in-None.new.self in
+    let w = c.trim.new.self in
     changed_under (λ b v xs ys. ys ≡ xs) t [] w.slots now.slots (seen bytes slots_in c.insert.new.self.entries)
     (put_new slots_in t es now.slots slots c.in_ok-key-in-None.key w c.insert.new.self.entries c.in_ok-key-in-None.ensures.items c.in-None.ensures.found c.in_ok-insert-in-None.ensures.entries)
     (was_none slots_in t es now.slots slots c.in-None.ensures.found)
-    (λ v. c.in_ok-make_room-in-None.ensures.same v ∙ ap (λ z. listed z v) c.new-values.ensures) (λ n v. refl)
+    (λ v. ap (λ z. listed z.slots v) c.trim.ensures ∙ c.in_ok-make_room-in-None.ensures.same v ∙ ap (λ z. listed z v) c.new-values.ensures) (λ n v. refl)
 
 pub returns-in_ok-insert-in-None-clause-kept : goal.returns-in_ok-insert-in-None-clause-kept
 returns-in_ok-insert-in-None-clause-kept c =
@@ -89,7 +89,7 @@ returns-in_ok-insert-in-None-clause-kept c =
     let es = c.self.inside.values.entries in
     let now = c.args.self.now in
     let rooms = ap named_rooms c.self.view_is in
-    let w = c.make_room-in-None.new.self in
+    let w = c.trim.new.self in
     changed_under (λ b v xs ys. length xs ≤ length ys) t [] w.rooms now.rooms (seen bytes rooms_in c.insert.new.self.entries)
     (put_new rooms_in t es now.rooms rooms c.in_ok-key-in-None.key w c.insert.new.self.entries c.in_ok-key-in-None.ensures.items c.in-None.ensures.found c.in_ok-insert-in-None.ensures.entries)
     (was_none rooms_in t es now.rooms rooms c.in-None.ensures.found)
@@ -101,5 +101,5 @@ returns-in_ok-insert-in-None-clause-room c =
     let es = c.self.inside.values.entries in
     let now = c.args.self.now in
     let rooms = ap named_rooms c.self.view_is in
-    let w = c.make_room-in-None.new.self in
-    subst (λ z. c.args.more ≤ length (listed z c.args.value.now)) (sym (popped_had t w.rooms (seen bytes rooms_in c.insert.new.self.entries) now.rooms (put_new rooms_in t es now.rooms rooms c.in_ok-key-in-None.key w c.insert.new.self.entries c.in_ok-key-in-None.ensures.items c.in-None.ensures.found c.in_ok-insert-in-None.ensures.entries))) c.in_ok-make_room-in-None.ensures.room
+    let w = c.trim.new.self in
+    subst (λ z. c.args.more ≤ length (listed z c.args.value.now)) (sym (popped_had t w.rooms (seen bytes rooms_in c.insert.new.self.entries) now.rooms (put_new rooms_in t es now.rooms rooms c.in_ok-key-in-None.key w c.insert.new.self.entries c.in_ok-key-in-None.ensures.items c.in-None.ensures.found c.in_ok-insert-in-None.ensures.entries))) (subst (λ z. c.args.more ≤ length (listed z.rooms c.args.value.now)) (sym c.trim.ensures) c.in_ok-make_room-in-None.ensures.room)

@@ -46,8 +46,8 @@ returns-in_ok-insert-in-None-clause-ok c =
     let s = c.args.slot in
     let es = c.self.inside.values.entries in
     let now = c.args.self.now.slots in
-    let w = c.push-in-None.new.self in
+    let w = c.trim.new.self in
     changed_under (λ b v xs ys. ys ≡ xs ++ (if b && same_text v c.args.value.now then s ∷ [] else [])) t [] w.slots now (seen bytes slots_in c.insert.new.self.entries)
     (put_new slots_in t es now (ap named_slots c.self.view_is) c.in_ok-key-in-None.key w c.insert.new.self.entries c.in_ok-key-in-None.ensures.items c.in-None.ensures.found c.in_ok-insert-in-None.ensures.entries)
     (was_none slots_in t es now (ap named_slots c.self.view_is) c.in-None.ensures.found)
-    (λ v. c.in_ok-push-in-None.ensures.ok v ∙ ap (λ z. listed z v ++ (if same_text v c.args.value.now then s ∷ [] else [])) c.new-values.ensures) (λ n v. sym (append_none (slots_of now n v)))
+    (λ v. ap (λ z. listed z.slots v) c.trim.ensures ∙ c.in_ok-push-in-None.ensures.ok v ∙ ap (λ z. listed z v ++ (if same_text v c.args.value.now then s ∷ [] else [])) c.new-values.ensures) (λ n v. sym (append_none (slots_of now n v)))
