@@ -2,7 +2,7 @@
 
 use crate::cases::{WORKERS, by};
 use crate::damaged::TWO_PAGES_CHANGED;
-use crate::lines::{Line, Log, NO_FILES, input_of};
+use crate::lines::{Line, Log, NO_FILES, input_of, seconds_of};
 use crate::worked::TWO_PAGES;
 use head_core::replay_serial;
 use head_replay::{Gate, Options, replay, tally};
@@ -196,6 +196,26 @@ fn gate_is_passed_once(rt: HostRuntime) -> Result<(), Fail> {
         let gate = Counted::new(alloc)?;
         drop(tally(&rt, alloc, &input, &by(workers), &gate)?);
         check_counted(&rt, &gate, workers);
+    }
+    Ok(())
+}
+
+// The workers apply so many items in more than one go.
+#[test]
+fn gate_is_passed_once_by_many_items(rt: HostRuntime) -> Result<(), Fail> {
+    let alloc = rt.alloc();
+    let input = seconds_of(alloc, 34, 2_000)?;
+    let serial = replay_serial(alloc, &input)?;
+    assert_eq!(rt; serial.head.counts().accepted, 68_000);
+    let shown = views(alloc, &serial.head)?;
+    for workers in [1, 2, 7] {
+        let gate = Counted::new(alloc)?;
+        let replayed = replay(&rt, alloc, &input, &by(workers), &gate)?;
+        check_counted(&rt, &gate, workers);
+        assert!(rt;
+            views(alloc, &replayed.head)? == shown,
+            "{workers} workers show another head"
+        );
     }
     Ok(())
 }
