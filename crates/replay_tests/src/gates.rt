@@ -204,9 +204,9 @@ fn gate_is_passed_once(rt: HostRuntime) -> Result<(), Fail> {
 #[test]
 fn gate_is_passed_once_by_many_items(rt: HostRuntime) -> Result<(), Fail> {
     let alloc = rt.alloc();
-    let input = seconds_of(alloc, 34, 2_000)?;
+    let input = seconds_of(alloc, 132, 2_000)?;
     let serial = replay_serial(alloc, &input)?;
-    assert_eq!(rt; serial.head.counts().accepted, 68_000);
+    assert_eq!(rt; serial.head.counts().accepted, 264_000);
     let shown = views(alloc, &serial.head)?;
     for workers in [1, 2, 7] {
         let gate = Counted::new(alloc)?;
