@@ -1,6 +1,8 @@
-//! All that a head shows, for programs and tests that compare two heads.
+//! What tests compare heads by: all that a head shows, and a head that is built in parts.
 #![tactic(auto)]
 
+mod parts;
 mod text;
 
+pub use parts::{Plan, build};
 pub use text::views;

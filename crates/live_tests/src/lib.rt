@@ -6,6 +6,8 @@ mod appends;
 #[cfg(test)]
 mod cases;
 #[cfg(test)]
+mod crowd;
+#[cfg(test)]
 mod device;
 #[cfg(test)]
 mod opening;

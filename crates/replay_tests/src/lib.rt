@@ -10,6 +10,8 @@ mod gates;
 #[cfg(test)]
 mod lines;
 #[cfg(test)]
+mod parts;
+#[cfg(test)]
 mod refused;
 #[cfg(test)]
 mod tickets;

@@ -1,8 +1,7 @@
-//! Small logs whose heads are built in parts.
+//! Small logs whose heads are built in parts, which are run one after another, in rising and in falling order.
 
-use crate::building::{Plan, build};
 use head_core::{Counts, Head, HeadFault};
-use head_views::views;
+use head_views::{Plan, build, views};
 use std::alloc::{AllocError, Global};
 use std::process::Abort;
 use wal_record::{Items, LabelSet, SampleEntry, SeriesEntry, StoneEntry, WalRecord};

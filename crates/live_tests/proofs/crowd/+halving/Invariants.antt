@@ -1,5 +1,5 @@
 use Rattle.std.proofs.Common.{◌+◌, ◌*◌, vec_len}
-use Rattle.live_crowd.proofs.+halving.Given as goal
+use Rattle.live_tests.proofs.crowd.+halving.Given as goal
 
 abbrev pub decreases-append_at_once : goal.decreases-append_at_once
 decreases-append_at_once g l = 3 * vec_len l.writers

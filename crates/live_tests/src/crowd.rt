@@ -1,5 +1,4 @@
-//! Appenders of a shared head at work, each in a thread of its own: for tests, and for a stopwatch.
-#![tactic(auto)]
+//! Appenders of a shared head at work, each in a thread of its own.
 
 ghost use Rattle.std.specs.Prelude.{◌<◌, vec_len};
 ghost use Rattle.std.specs.Thread.{IsSend, IsSync};
