@@ -1,6 +1,6 @@
 //! Why a log was not replayed.
 
-use crate::crew::CrewFault;
+use head_crew::CrewFault;
 use head_core::HeadFault;
 use std::alloc::AllocError;
 use std::error::Error;

@@ -5,8 +5,8 @@ ghost use Rattle.head_postings.specs.Postings.{IsPostingsOf, Labels};
 ghost use Rattle.head_core.specs.Content.{by_slot};
 ghost use Rattle.head_replay.specs.Partial.{belonging, AreNumbered};
 
-use crate::crew::{Crew, CrewFault, Job};
-use crate::gate::Gate;
+use head_crew::{Crew, CrewFault, Job};
+use head_crew::Gate;
 use head_postings::Postings;
 use head_series::{SeriesTable, Slot};
 use std::alloc::{AllocError, Global};

@@ -1,6 +1,6 @@
 //! Starts of threads that are refused, which no public call can bring about. The other tests go by public calls, in a crate of their own.
 
-use crate::crew::{Crew, Starts};
+use head_crew::{Crew, Starts};
 use crate::fault::EngineFault;
 use crate::postings::postings_by;
 use crate::replaying::{replay_by, tally_by};
