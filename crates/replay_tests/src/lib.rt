@@ -12,6 +12,8 @@ mod lines;
 #[cfg(test)]
 mod refused;
 #[cfg(test)]
+mod starts;
+#[cfg(test)]
 mod tickets;
 #[cfg(test)]
 mod worked;
