@@ -74,7 +74,7 @@ impl Starts {
 }
 
 /// Workers, each of which finishes a job in a thread of its own: what lets them start, and the gate that they pass.
-#[derive(Clone, Copy)]
+#[derive(Drop)]
 pub struct Crew<'a, R, G> {
     rt: &'a R,
     gate: &'a G,
