@@ -77,6 +77,8 @@ mod series;
 #[cfg(test)]
 mod shared;
 #[cfg(test)]
+mod starts;
+#[cfg(test)]
 mod tickets;
 #[cfg(test)]
 mod views;
