@@ -2,9 +2,7 @@
 
 use crate::cases::by;
 use crate::lines::{NO_FILES, input_of};
-use head_replay::{
-    Crew, CrewFault, NoGate, ReplayFault, Starts, postings_by, replay_by, tally_by,
-};
+use head_replay::{Crew, CrewFault, NoGate, ReplayFault, Starts, postings_by, replay_by, tally_by};
 use head_series::SeriesTable;
 use std::alloc::Global;
 use std::sync::Wait;
