@@ -1,6 +1,6 @@
 -- Plain facts of lists.
-use Rattle.std.proofs.Common.{◌≡◌, ℕ, zero, suc, true, false, List, [], ◌∷◌, ◌++◌, length, take, drop, Option, Some, None, refl, arith}
-use Rattle.std.specs.Prelude.{All, is_some, IfOk, Result, Ok, Err}
+use Rattle.std.proofs.Common.{◌≡◌, ℕ, zero, suc, true, false, List, [], ◌∷◌, ◌++◌, take, drop, Option, Some, None, refl, arith}
+use Rattle.std.specs.Prelude.{All, is_some}
 use Rattle.std.specs.List.{AllByRecursion}
 
 pub all_at : {A : Type 0} (P : A → Type 0) (xs : List A) (y : A) (ys : List A) → All P (xs ++ y ∷ ys) → P y
@@ -29,8 +29,3 @@ none_there (Some x) e = absurd cc
 pub some_there : {A : Type 0} (o : Option A) → is_some o ≡ true → o ≡ None → ⊥
 some_there None e k = cc
 some_there (Some x) e k = cc
-
--- the last of four facts of what came
-pub last_of_four : {A E : Type 0} (P Q R S : A → Type 0) (r : Result A E) → IfOk r (λ x. P x × Q x × R x × S x) → IfOk r S
-last_of_four P Q R S (Ok x) h = h.3
-last_of_four P Q R S (Err e) h = h
