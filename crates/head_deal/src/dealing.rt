@@ -41,7 +41,6 @@ pub struct DealRefused<B> {
 ///
 /// Items are either applied here, by `step`, or the deal is taken apart by `into_parts`, so that each worker runs its part alone.
 /// Either way each slot and each item ends alike.
-#[derive(Drop)]
 pub struct Deal<B: Builder> {
     pub(crate) tag: u64,
     pub(crate) workers: usize,
@@ -49,6 +48,20 @@ pub struct Deal<B: Builder> {
     pub(crate) count: usize,
     pub(crate) seats: Vec<Seat>,
     pub(crate) parts: Vec<Part<B>>,
+}
+
+// Written out: where another function drops one, its proof has one call, and not a copy of this.
+impl<B: Builder> Drop for Deal<B> {
+    fn drop(self) {
+        let Deal {
+            tag: _,
+            workers: _,
+            slots: _,
+            count: _,
+            seats: _seats,
+            parts: _parts,
+        } = self;
+    }
 }
 
 impl<B: Builder> Model for Deal<B> {

@@ -1,15 +1,10 @@
 pub mod Counted
-pub mod Decoded
 pub mod Ending
 pub mod Growing
 pub mod Items
 pub mod Lists
 pub mod Made
-pub mod PageByPage
 pub mod Partial
 pub mod RecordByRecord
 pub mod Shares
-pub mod Slots
-pub mod Spelling
 pub mod Taken
-pub mod TicketRule

@@ -13,7 +13,7 @@ use Rattle.head_postings.specs.Slots.{AreAbove, AreBelow, AreOfBoth, IsAscending
 use Rattle.head_postings.specs.Postings.{IsMergeOf, IsPostingsOf, Lists, slots}
 use Rattle.head_core.specs.Content.{by_slot}
 use Rattle.head_core.proofs.Numbered.{one_more}
-use Rattle.head_replay.specs.Jobs.{AreDone}
+use Rattle.head_crew.specs.Jobs.{AreDone}
 use Rattle.head_replay.specs.Partial.{belonging, AreNumbered}
 use Rattle.head_replay.specs.declared.postings.Listing.{Listing}
 

@@ -4,7 +4,7 @@ use Rattle.std.specs.Prelude.{All, slice_index_or}
 use Rattle.head_deal.specs.Dealing.{Dealing, Share, Kept, Ran, end_slots, end_jobs, course}
 use Rattle.head_deal.specs.Endings.{slots_of, jobs_of}
 use Rattle.head_deal.specs.Joining.{IsPartOf}
-use Rattle.head_replay.specs.Jobs.{AreDone}
+use Rattle.head_crew.specs.Jobs.{AreDone}
 
 module _ {B V I O : Type 0} (value : B → V) (after : V → I → V) (outcome : V → I → O) (d : Dealing B I O) where
   still_part : (p q : Share B I O) → IsPartOf value after outcome d p → Kept value after outcome p q → IsPartOf value after outcome d q

@@ -1,8 +1,8 @@
 -- What a refusal of a part is to the whole.
 use Rattle.head_core.specs.declared.fault.HeadFault.{HeadFault}
 use Rattle.head_core.specs.declared.fault.HeadFault.TheVariants as head
-use Rattle.head_replay.specs.declared.crew.CrewFault.{CrewFault}
-use Rattle.head_replay.specs.declared.crew.CrewFault.TheVariants as crew
+use Rattle.head_crew.specs.declared.crew.CrewFault.{CrewFault}
+use Rattle.head_crew.specs.declared.crew.CrewFault.TheVariants as crew
 use Rattle.head_replay.specs.declared.fault.EngineFault.{EngineFault}
 use Rattle.head_replay.specs.declared.fault.EngineFault.TheVariants.{Full, Memory, Workers}
 use Rattle.head_replay.specs.declared.fault.ReplayFault.{ReplayFault}

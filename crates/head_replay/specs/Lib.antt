@@ -1,12 +1,6 @@
 pub mod Applying
-pub mod Drawn
 pub mod Faults
-pub mod Jobs
 pub mod Partial
-pub mod Progress
-pub mod RunPages
-pub mod Scanning
 pub mod Standing
+pub mod Taken
 pub mod Taking
-pub mod Texts
-pub mod Tickets

@@ -1,7 +1,7 @@
 //! Why a log was not replayed.
 
-use crate::crew::CrewFault;
 use head_core::HeadFault;
+use head_crew::CrewFault;
 use std::alloc::AllocError;
 use std::error::Error;
 use std::fmt;
@@ -54,6 +54,20 @@ impl From<EngineFault> for ReplayFault {
             EngineFault::Full => ReplayFault::Full,
             EngineFault::Memory => ReplayFault::Memory,
             EngineFault::Workers => ReplayFault::Workers,
+        }
+    }
+}
+
+impl From<CrewFault> for ReplayFault {
+    ghost use Rattle.std.specs.Prelude.{◌≡◌};
+    ghost use Rattle.head_replay.specs.Faults.{crew_fault, replay_fault};
+
+    ghost from_gives = { λ f e. e ≡ replay_fault (crew_fault f) };
+
+    fn from(fault: CrewFault) -> ReplayFault {
+        match fault {
+            CrewFault::Memory => ReplayFault::Memory,
+            CrewFault::Workers => ReplayFault::Workers,
         }
     }
 }

@@ -5,8 +5,7 @@ ghost use Rattle.head_postings.specs.Postings.{IsPostingsOf, Labels};
 ghost use Rattle.head_core.specs.Content.{by_slot};
 ghost use Rattle.head_replay.specs.Partial.{belonging, AreNumbered};
 
-use crate::crew::{Crew, CrewFault, Job};
-use crate::gate::Gate;
+use head_crew::{Crew, CrewFault, Gate, Job};
 use head_postings::Postings;
 use head_series::{SeriesTable, Slot};
 use std::alloc::{AllocError, Global};
@@ -107,8 +106,9 @@ fn merge_all(alloc: Global, mut jobs: Vec<Listing<'_>>) -> Result<Postings, Allo
     low.merge(high)
 }
 
-/// The slots of each label of a table: each worker lists its own slots, and what they listed is merged.
-pub(crate) fn postings_by<R: Threads + Wait + Sync, G: Gate + Sync>(
+/// The postings of a table's series, by a crew of the caller's own: each of so many workers lists its own series, and what they listed is
+/// merged. No gate stands before it. `Workers` where a thread can't start.
+pub fn postings_by<R: Threads + Wait + Sync, G: Gate + Sync>(
     crew: &Crew<'_, R, G>,
     alloc: Global,
     workers: usize,

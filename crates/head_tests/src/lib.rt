@@ -1,4 +1,4 @@
-//! Tests of the crates that keep a head, by their public calls.
+//! Tests of the crates that keep, replay and append to a head, by their public calls.
 #![tactic(auto)]
 
 // A sample that is kept, and a run of hidden times.
@@ -23,11 +23,25 @@ macro_rules! run {
 }
 
 #[cfg(test)]
+mod appends;
+#[cfg(test)]
+mod building;
+#[cfg(test)]
+mod cases;
+#[cfg(test)]
 mod chunks;
 #[cfg(test)]
 mod columns;
 #[cfg(test)]
+mod crowd;
+#[cfg(test)]
+mod damaged;
+#[cfg(test)]
 mod deals;
+#[cfg(test)]
+mod device;
+#[cfg(test)]
+mod gates;
 #[cfg(test)]
 mod heads;
 #[cfg(test)]
@@ -35,15 +49,41 @@ mod hours;
 #[cfg(test)]
 mod lines;
 #[cfg(test)]
+mod live_views;
+#[cfg(test)]
+mod log_lines;
+#[cfg(test)]
+mod logs;
+#[cfg(test)]
+mod opening;
+#[cfg(test)]
+mod parts;
+#[cfg(test)]
 mod postings;
 #[cfg(test)]
+mod prepares;
+#[cfg(test)]
 mod references;
+#[cfg(test)]
+mod refused;
 #[cfg(test)]
 mod replays;
 #[cfg(test)]
 mod rooms;
 #[cfg(test)]
+mod rows;
+#[cfg(test)]
 mod series;
+#[cfg(test)]
+mod shared;
+#[cfg(test)]
+mod starts;
+#[cfg(test)]
+mod tickets;
+#[cfg(test)]
+mod views;
+#[cfg(test)]
+mod worked;
 
 #[cfg(test)]
 use head_series::Slot;

@@ -1,0 +1,244 @@
+//! Jobs, and the threads that finish them.
+
+ghost use Rattle.std.specs.Prelude.{◌≡◌, ◌+◌, ◌^◌, ◌<◌, ◌≤◌, ◌++◌, IfOk, IsOkAnd, OnOk, vec_len};
+ghost use Rattle.std.specs.Thread.{IsSync, IsSend};
+ghost use Rattle.head_crew.specs.Jobs.{AreDone};
+
+use crate::gate::{Gate, NoGate};
+use core::thread::Stack;
+use std::alloc::AllocError;
+use std::snapshot::Snapshot;
+use std::sync::Wait;
+use std::thread;
+use std::thread::{Promise, Threads};
+
+/// What one worker owns, and finishes in a thread of its own.
+pub trait Job {
+    /// What is known of a job that was finished: of the job as it was, and as it is then.
+    ghost done: { Self → Self → Type 0 };
+
+    /// Passes the gate that stands before such jobs. Each worker calls it once, before its job.
+    fn enter<G: Gate>(gate: &G, worker: usize, turn: u64);
+
+    /// Finishes the job.
+    fn finish(&mut self) -> Result<(), AllocError>
+        ensures { OnOk result (done self.old self.new) };
+}
+
+/// Why jobs were not finished.
+#[derive(Clone, Copy, Debug, PartialEq, Eq)]
+pub enum CrewFault {
+    /// Memory ran out.
+    Memory,
+    /// A thread could not start. Those that did were joined.
+    Workers,
+}
+
+impl From<AllocError> for CrewFault {
+    ghost use Rattle.std.specs.Prelude.{◌≡◌};
+    ghost use Rattle.head_crew.specs.declared.crew.CrewFault.TheVariants.{Memory};
+
+    ghost from_gives = { λ _ e. e ≡ Memory };
+
+    fn from(_error: AllocError) -> CrewFault {
+        CrewFault::Memory
+    }
+}
+
+/// Which threads may start. Threads are numbered as the workers are, from 0.
+#[derive(Clone, Copy, Debug)]
+pub struct Starts {
+    below: usize,
+}
+
+impl Starts {
+    /// All threads may start.
+    pub fn all() -> Starts {
+        Starts { below: usize::MAX }
+    }
+
+    /// Only threads with a number below `number` may start: all others are refused, as they are where the system has no thread left. A test
+    /// sees by it what comes of a refusal.
+    pub fn below(number: usize) -> Starts {
+        Starts { below: number }
+    }
+
+    /// The stack of the thread with this number. One that is refused is given a larger stack than any thread can have.
+    pub fn stack(self, number: usize) -> Stack {
+        if number < self.below {
+            Stack::new()
+        } else {
+            Stack::new().stack_size(usize::MAX)
+        }
+    }
+}
+
+/// Workers, each of which finishes a job in a thread of its own: what lets them start, and the gate that they pass.
+#[derive(Drop)]
+pub struct Crew<'a, R, G> {
+    rt: &'a R,
+    gate: &'a G,
+    starts: Starts,
+}
+
+impl<'a, R: Threads + Wait + Sync, G: Gate + Sync> Crew<'a, R, G> {
+    /// Workers whose threads are started by `rt`, where `starts` lets them, and pass this gate.
+    pub fn new(rt: &'a R, gate: &'a G, starts: Starts) -> Crew<'a, R, G> {
+        Crew { rt, gate, starts }
+    }
+
+    /// The same workers, with no gate before their jobs.
+    pub fn without_gate(&self) -> Crew<'a, R, NoGate> {
+        Crew {
+            rt: self.rt,
+            gate: &NoGate,
+            starts: self.starts,
+        }
+    }
+
+    /// What starts threads, and waits for them.
+    pub(crate) fn rt(&self) -> &'a R {
+        self.rt
+    }
+
+    /// Which threads may start.
+    pub(crate) fn starts(&self) -> Starts {
+        self.starts
+    }
+
+    /// Finishes the jobs, each in a thread of its own, in the round `turn`, and gives them back in order. All threads that it started are
+    /// joined before it returns, also where it fails.
+    pub fn finish<J: Job + Send + Drop>(&self, turn: u64, jobs: Vec<J>) -> Result<Vec<J>, CrewFault>
+        requires { vec_len jobs ≤ 64 }
+        ensures { IfOk result (λ after. AreDone J.done jobs.items after.items) }
+    {
+        finish_all(self.rt, self.starts, self.gate, turn, jobs)
+    }
+}
+
+/// What is known of the jobs that a thread gives back: each of those that it was given is finished.
+#[derive(Drop)]
+pub(crate) struct Finishes<J>(pub(crate) Snapshot<Vec<J>>);
+
+impl<J: Job> Promise<Result<Vec<J>, CrewFault>> for Finishes<J> {
+    ghost use Rattle.std.specs.Prelude.{IfOk};
+    ghost use Rattle.head_crew.specs.Jobs.{AreDone};
+
+    ghost kept_by = { λ p r. IfOk r (λ after. AreDone J.done p.0.value.items after.items) };
+}
+
+// The one job, where there is one.
+fn finish_one<J: Job + Drop, G: Gate>(
+    gate: &G,
+    turn: u64,
+    worker: usize,
+    mut jobs: Vec<J>,
+) -> Result<Vec<J>, CrewFault>
+    requires { vec_len jobs ≤ 1 }
+    ensures { IfOk result (λ after. AreDone J.done jobs.items after.items) }
+{
+    J::enter(gate, worker, turn);
+    if !jobs.is_empty() {
+        jobs[0].finish()?;
+    }
+    Ok(jobs)
+}
+
+// The jobs of both halves.
+fn put_together<J: Drop>(
+    low: Result<Vec<J>, CrewFault>,
+    high: Result<Vec<J>, CrewFault>,
+) -> Result<Vec<J>, CrewFault>
+    ensures { IfOk result (λ all. IsOkAnd low (λ a. IsOkAnd high (λ b. all.items ≡ a.items ++ b.items))) }
+{
+    let mut all = low?;
+    let mut rest = high?;
+    all.append(&mut rest)?;
+    Ok(all)
+}
+
+// Each job in a thread of its own: this one has the first, and the others are started by halving.
+#[cycle(halving)]
+fn finish_from<J: Job + Send + Drop, G: Gate + Sync, R: Threads + Wait + Sync>(
+    rt: &R,
+    starts: Starts,
+    gate: &G,
+    turn: u64,
+    first: usize,
+    mut jobs: Vec<J>,
+) -> Result<Vec<J>, CrewFault>
+    requires { first + vec_len jobs < 2 ^ 32 }
+    ensures { IfOk result (λ after. AreDone J.done jobs.items after.items) }
+{
+    if jobs.len() <= 1 {
+        return finish_one(gate, turn, first, jobs);
+    }
+    let half = jobs.len() / 2;
+    let rest = jobs.split_off(half)?;
+    thread::scope(
+        thread::scope_env(),
+        rt,
+        |scope| -> Result<Vec<J>, CrewFault>
+            requires { IsSync R.row × IsSync G.row × IsSend J.row × (0 < vec_len jobs) × (0 < vec_len rest) × (first + (half + vec_len rest) < 2 ^ 32) × (half ≡ vec_len jobs) }
+            ensures { IfOk result (λ after. AreDone J.done (jobs.items ++ rest.items) after.items) }
+        {
+            let were = Snapshot::of(&rest);
+            let there = move || -> Result<Vec<J>, CrewFault>
+                requires { IsSync R.row × IsSync G.row × IsSend J.row × (first + half + vec_len rest < 2 ^ 32) }
+                ensures { IfOk result (λ after. AreDone J.done rest.items after.items) }
+            { finish_from(rt, starts, gate, turn, first + half, rest) };
+            let stack = starts.stack(first + half);
+            let Ok(child) = stack.spawn_scoped_with(scope, Finishes(were), there) else {
+                return Err(CrewFault::Workers);
+            };
+            let low = finish_from(rt, starts, gate, turn, first, jobs);
+            let high = child.join(rt);
+            put_together(low, high)
+        },
+    )
+}
+
+/// Finishes the jobs as [`Crew::finish`] does, with no gate before them, and the first of them in the calling thread.
+pub(crate) fn finish_here<J: Job + Send + Drop, R: Threads + Wait + Sync>(
+    rt: &R,
+    starts: Starts,
+    turn: u64,
+    jobs: Vec<J>,
+) -> Result<Vec<J>, CrewFault>
+    requires { vec_len jobs ≤ 64 }
+    ensures { IfOk result (λ after. AreDone J.done jobs.items after.items) }
+{
+    finish_from(rt, starts, &NoGate, turn, 0, jobs)
+}
+
+// The same as `finish_from`, where this thread only waits.
+fn finish_all<J: Job + Send + Drop, G: Gate + Sync, R: Threads + Wait + Sync>(
+    rt: &R,
+    starts: Starts,
+    gate: &G,
+    turn: u64,
+    jobs: Vec<J>,
+) -> Result<Vec<J>, CrewFault>
+    requires { vec_len jobs ≤ 64 }
+    ensures { IfOk result (λ after. AreDone J.done jobs.items after.items) }
+{
+    thread::scope(
+        thread::scope_env(),
+        rt,
+        |scope| -> Result<Vec<J>, CrewFault>
+            requires { vec_len jobs ≤ 64 }
+            ensures { IfOk result (λ after. AreDone J.done jobs.items after.items) }
+        {
+            let were = Snapshot::of(&jobs);
+            let all = move || -> Result<Vec<J>, CrewFault>
+                requires { vec_len jobs ≤ 64 }
+                ensures { IfOk result (λ after. AreDone J.done jobs.items after.items) }
+            { finish_from(rt, starts, gate, turn, 0, jobs) };
+            let stack = starts.stack(0);
+            let Ok(child) = stack.spawn_scoped_with(scope, Finishes(were), all) else {
+                return Err(CrewFault::Workers);
+            };
+            child.join(rt)
+        },
+    )
+}

@@ -1,0 +1,261 @@
+//! Rows that are appended.
+
+use crate::cases::{Case, check};
+use crate::device::Device;
+use crate::live_views::views;
+use crate::opening::{Entry, head_of};
+use crate::rows::{Row, prepared};
+use head_live::{AppendFault, Live, PrepareFault, Verdict};
+use std::alloc::{AllocError, Global};
+use std::process::Abort;
+use wal_log::LogWriter;
+
+// A head's log, a segment of so many pages on a device that has room for so many bytes, and the rows of each call.
+#[derive(Clone, Copy)]
+struct Appends {
+    log: &'static [Entry],
+    pages: u32,
+    room: usize,
+    calls: &'static [&'static [Row]],
+}
+
+// An open head that is to take rows.
+fn open(alloc: Global, case: &Appends) -> Result<Live<Device>, AllocError> {
+    let head = head_of(alloc, case.log).map_err(|_| AllocError)?;
+    if head.is_failed() {
+        return Err(AllocError);
+    }
+    let log = LogWriter::new(
+        alloc,
+        Device::new(alloc, case.room),
+        case.pages.clamp(1, 4096),
+    );
+    Ok(Live::new(alloc, head, log))
+}
+
+// What the rows of a call are told, a letter each, or the fault.
+fn push_call(
+    text: &mut String,
+    alloc: Global,
+    live: &mut Live<Device>,
+    rows: &[Row],
+) -> Result<(), AllocError> {
+    let rows = match prepared(alloc, rows) {
+        Ok(rows) => rows,
+        Err(PrepareFault::Memory) => return Err(AllocError),
+        Err(fault) => return write!(text, "{fault:?} "),
+    };
+    match live.append(&rows) {
+        Ok(verdicts) => {
+            for verdict in &verdicts {
+                text.push(match verdict {
+                    Verdict::Accepted => 'A',
+                    Verdict::Stale => 'S',
+                })?;
+            }
+        }
+        Err(AppendFault::Memory) => return Err(AllocError),
+        Err(fault) => write!(text, "{fault:?}")?,
+    }
+    write!(text, " {} ", live.done())
+}
+
+// The bytes that the device took, and what the head shows.
+fn push_left(text: &mut String, alloc: Global, live: Live<Device>) -> Result<(), AllocError> {
+    let shown = views(alloc, live.head())?;
+    let (head, log) = live.into_inner();
+    for byte in &log.into_inner().taken {
+        write!(text, "{byte:02X}")?;
+    }
+    write!(text, " | {}", shown.as_str())?;
+    drop(head);
+    Ok(())
+}
+
+impl Case for Appends {
+    fn text(&self, alloc: Global) -> Result<String, AllocError> {
+        let mut text = String::new(alloc);
+        let mut live = open(alloc, self)?;
+        for rows in self.calls {
+            push_call(&mut text, alloc, &mut live, rows)?;
+        }
+        push_left(&mut text, alloc, live)?;
+        Ok(text)
+    }
+}
+
+const NONE: Appends = Appends {
+    log: &[],
+    pages: 4096,
+    room: usize::MAX,
+    calls: &[],
+};
+
+const API: &[(&[u8], &[u8])] = &[(b"job", b"api")];
+
+const THREE: &[Row] = &[(1000, 5, API), (1015, 6, API), (1015, 7, API)];
+
+const ONE: &[Row] = &[(1030, 8, API)];
+
+// A series of 69 bytes, and then one sample more.
+const THREE_AND_ONE: Appends = Appends {
+    calls: &[THREE, ONE],
+    ..NONE
+};
+
+const LIVE: &[(Appends, &str)] = &[(
+    THREE_AND_ONE,
+    "AAS 69 A 103 \
+        0100128DAC905901000000000000000101036A6F6203617069\
+        0100258849D67E02000000000000000100000000000003E800000000000000000005001E0000000000000006\
+        01001BD1EC144A020000000000000001000000000000040600000000000000000008 \
+        | 1 2 3 0 Some(2) Some(1030) 0; Some(1) job=api 1000:5 1015:6 1030:8 Some(1030)",
+)];
+
+#[test]
+fn live_append(rt: HostRuntime) {
+    check(&rt, LIVE);
+}
+
+const X: &[(&[u8], &[u8])] = &[(b"a", b"x")];
+
+const Y: &[(&[u8], &[u8])] = &[(b"a", b"y")];
+
+const Z: &[(&[u8], &[u8])] = &[(b"a", b"z")];
+
+const SPENT: &[(Appends, &str)] = &[(
+    Appends {
+        log: &[Entry::Series(u64::MAX, b"x")],
+        calls: &[
+            &[(1000, 5, X)],
+            &[(1000, 5, Y)],
+            &[(2000, 5, X), (2000, 5, Y)],
+        ],
+        ..NONE
+    },
+    "A 34 RefsSpent 34 RefsSpent 34 \
+        01001B5DB0A62902FFFFFFFFFFFFFFFF00000000000003E800000000000000000005 \
+        | 1 1 1 0 None Some(1000) 1; Some(18446744073709551615) a=x 1000:5 Some(1000)",
+)];
+
+#[test]
+fn references_spent(rt: HostRuntime) {
+    check(&rt, SPENT);
+}
+
+// The series of x has a sample, and no reference any more.
+const REBOUND: &[(Appends, &str)] = &[(
+    Appends {
+        log: &[
+            Entry::Series(1, b"x"),
+            Entry::Sample(1, 5000, 1),
+            Entry::Series(1, b"y"),
+        ],
+        calls: &[&[(4000, 1, X)], &[(6000, 2, X)]],
+        ..NONE
+    },
+    "S 0 A 55 \
+        01000E77377A66010000000000000002010161017801001BD61BD492020000000000000002000000000000177000000000000000000002 \
+        | 3 2 2 0 Some(3) Some(6000) 1; Some(2) a=x 5000:1 6000:2 Some(6000); Some(1) a=y None",
+)];
+
+#[test]
+fn append_after_rebinding(rt: HostRuntime) {
+    check(&rt, REBOUND);
+}
+
+// Two new series in one call, each with two rows, and a third whose first row is its only one.
+const NEW: &[(Appends, &str)] = &[(
+    Appends {
+        calls: &[&[(5, 1, Y), (5, 2, Z), (6, 3, Y), (4, 9, Z)]],
+        ..NONE
+    },
+    "AAAS 88 \
+        01001B40C93FD101000000000000000101016101790000000000000002010161017A\
+        01002FDF1170140200000000000000010000000000000005000000000000000000010200000000000000000200020000000000000003 \
+        | 1 1 3 0 Some(3) Some(6) 0; Some(1) a=y 5:1 6:3 Some(6); Some(2) a=z 5:2 Some(5)",
+)];
+
+#[test]
+fn two_new_series(rt: HostRuntime) {
+    check(&rt, NEW);
+}
+
+// No rows are nothing, and what a call was refused for the next one is not held to.
+const FULL: &[(Appends, &str)] = &[(
+    Appends {
+        pages: 1,
+        calls: &[&[], &[(5, 1, &[(b"a", &[b'x'; 32_720])])], THREE],
+        ..NONE
+    },
+    " 0 SegmentFull 0 AAS 69 \
+        0100128DAC905901000000000000000101036A6F6203617069\
+        0100258849D67E02000000000000000100000000000003E800000000000000000005001E0000000000000006 \
+        | 1 1 2 0 Some(2) Some(1015) 0; Some(1) job=api 1000:5 1015:6 Some(1015)",
+)];
+
+#[test]
+fn full_segment(rt: HostRuntime) {
+    check(&rt, FULL);
+}
+
+// The bytes of the three rows.
+const BYTES: &str = "0100128DAC905901000000000000000101036A6F6203617069\
+    0100258849D67E02000000000000000100000000000003E800000000000000000005001E0000000000000006";
+
+// What the three rows and the one leave where the device has room for so many bytes of the first call's.
+fn broken_text(alloc: Global, room: usize) -> Result<String, AllocError> {
+    let mut text = String::from_str(alloc, "Write 0 Failed 0 ")?;
+    for digit in BYTES.chars().take(room.saturating_mul(2)) {
+        text.push(digit)?;
+    }
+    text.push_str(" | 0 0 0 0 Some(1) None 0")?;
+    Ok(text)
+}
+
+#[test]
+fn device_that_fails_at_each_byte(rt: HostRuntime) -> Result<(), AllocError> {
+    for room in 0..69 {
+        let case = Appends {
+            room,
+            ..THREE_AND_ONE
+        };
+        let found = case.text(rt.alloc())?;
+        let wanted = broken_text(rt.alloc(), room)?;
+        assert_eq!(&rt; found.as_str(), wanted.as_str(), "room for {room}");
+    }
+    Ok(())
+}
+
+const MIXED: Appends = Appends {
+    log: &[Entry::Series(1, b"x"), Entry::Sample(1, 5000, 1)],
+    calls: &[&[
+        (6000, 1, X),
+        (6000, 1, Y),
+        (5000, 1, X),
+        (7000, 1, Y),
+        (1, 1, Z),
+    ]],
+    ..NONE
+};
+
+// Appends rows of a known series and of new ones. Where nothing was logged the head shows what it showed.
+fn append_or_stay(rt: &impl Abort, alloc: Global) -> Result<(), AllocError> {
+    let mut live = open(alloc, &MIXED)?;
+    let before = views(alloc, live.head())?;
+    let mut text = String::new(alloc);
+    let _ = push_call(&mut text, alloc, &mut live, MIXED.calls[0]);
+    let after = views(alloc, live.head())?;
+    if live.done() == 0 {
+        assert_eq!(rt; before.as_str(), after.as_str());
+    } else {
+        assert_ne!(rt; before.as_str(), after.as_str());
+    }
+    Ok(())
+}
+
+// To be run too with each allocation refused in turn, those of the device among them.
+#[test]
+fn each_allocation(rt: HostRuntime) {
+    let _ = append_or_stay(&rt, rt.alloc());
+}

@@ -1,0 +1,345 @@
+//! Who comes to the gates of a replay, and when.
+
+use crate::damaged::TWO_PAGES_CHANGED;
+use crate::log_lines::{Line, Log, NO_FILES, input_of, seconds_of};
+use crate::logs::{WORKERS, by};
+use crate::views::views;
+use crate::worked::TWO_PAGES;
+use head_core::replay_serial;
+use head_replay::{Gate, Options, replay, tally};
+use std::alloc::{AllocError, Global};
+use std::process::Abort;
+use std::sync::atomic::{AtomicU64, Ordering};
+use std::test::Fail;
+use std::thread;
+use std::time::{Clock, Duration};
+
+// A log of two files.
+const TWO_FILES: Log = Log {
+    segments: &[
+        &[
+            Line::Series(&[(1, b"a", b"x"), (2, b"a", b"y")]),
+            Line::Samples(&[(1, 1000, 1), (2, 1000, 2)]),
+        ],
+        &[Line::Samples(&[(1, 2000, 3), (2, 2000, 4)])],
+    ],
+    ..NO_FILES
+};
+
+// A place where two are to be at the same time.
+#[derive(Drop)]
+struct Encounter {
+    came: AtomicU64,
+    met: AtomicU64,
+}
+
+impl Encounter {
+    fn new() -> Encounter {
+        Encounter {
+            came: AtomicU64::new(0),
+            met: AtomicU64::new(0),
+        }
+    }
+
+    // Holds who comes until two are there, for some ten seconds at most.
+    fn wait<C: Clock>(&self, clock: &C) {
+        self.came.fetch_add(1, Ordering::SeqCst);
+        for _ in 0..10_000u32 {
+            if self.came.load(Ordering::SeqCst) == 2 {
+                self.met.fetch_add(1, Ordering::SeqCst);
+                return;
+            }
+            thread::sleep(clock, Duration::from_millis(1));
+        }
+    }
+
+    // How many saw the other one there.
+    fn met(&self) -> u64 {
+        self.met.load(Ordering::SeqCst)
+    }
+}
+
+// A gate that two workers pass together, and behind which they run their parts together.
+#[derive(Drop)]
+struct Meeting<C> {
+    clock: C,
+    at_pass: Encounter,
+    at_part: Encounter,
+}
+
+impl<C: Clock> Meeting<C> {
+    fn new(clock: C) -> Meeting<C> {
+        Meeting {
+            clock,
+            at_pass: Encounter::new(),
+            at_part: Encounter::new(),
+        }
+    }
+}
+
+impl<C: Clock> Gate for Meeting<C> {
+    fn pass(&self, _worker: usize, _turn: u64) {
+        self.at_pass.wait(&self.clock);
+    }
+
+    fn part(&self, _worker: usize, _turn: u64) {
+        self.at_part.wait(&self.clock);
+    }
+}
+
+#[test]
+fn two_workers_meet(rt: HostRuntime) -> Result<(), Fail> {
+    let input = input_of(rt.alloc(), TWO_FILES)?;
+    let gate = Meeting::new(&rt);
+    let replayed = replay(&rt, rt.alloc(), &input, &by(2), &gate)?;
+    assert_eq!(rt; replayed.head.counts().accepted, 4);
+    assert_eq!(rt;
+        (gate.at_pass.met(), gate.at_part.met()),
+        (2, 2),
+        "in a replay"
+    );
+    let gate = Meeting::new(&rt);
+    let tallied = tally(&rt, rt.alloc(), &input, &by(2), &gate)?;
+    assert_eq!(rt; tallied.counts.accepted, 4);
+    assert_eq!(rt;
+        (gate.at_pass.met(), gate.at_part.met()),
+        (2, 2),
+        "in a tally"
+    );
+    Ok(())
+}
+
+// How often each worker came in the first round, and how often anyone else did.
+#[derive(Drop)]
+struct Calls {
+    of_workers: Vec<AtomicU64>,
+    others: AtomicU64,
+}
+
+impl Calls {
+    fn new(alloc: Global) -> Result<Calls, AllocError> {
+        let mut of_workers = Vec::new(alloc);
+        for _worker in 0..64usize {
+            of_workers.push(AtomicU64::new(0))?;
+        }
+        Ok(Calls {
+            of_workers,
+            others: AtomicU64::new(0),
+        })
+    }
+
+    fn note(&self, worker: usize, turn: u64) {
+        let calls = match self.of_workers.get(worker) {
+            Some(calls) if turn == 0 => calls,
+            _ => &self.others,
+        };
+        calls.fetch_add(1, Ordering::SeqCst);
+    }
+
+    // Whether so many workers came once each, and no other.
+    fn are_once_each(&self, workers: usize) -> bool {
+        for (worker, calls) in self.of_workers.iter().enumerate() {
+            let wanted = if worker < workers { 1 } else { 0 };
+            if calls.load(Ordering::SeqCst) != wanted {
+                return false;
+            }
+        }
+        self.others.load(Ordering::SeqCst) == 0
+    }
+}
+
+// A gate that counts who comes.
+#[derive(Drop)]
+struct Counted {
+    passes: Calls,
+    parts: Calls,
+}
+
+impl Counted {
+    fn new(alloc: Global) -> Result<Counted, AllocError> {
+        Ok(Counted {
+            passes: Calls::new(alloc)?,
+            parts: Calls::new(alloc)?,
+        })
+    }
+}
+
+impl Gate for Counted {
+    fn pass(&self, worker: usize, turn: u64) {
+        self.passes.note(worker, turn);
+    }
+
+    fn part(&self, worker: usize, turn: u64) {
+        self.parts.note(worker, turn);
+    }
+}
+
+fn check_counted(rt: &impl Abort, gate: &Counted, workers: usize) {
+    assert!(rt;
+        gate.passes.are_once_each(workers),
+        "{workers} workers pass"
+    );
+    assert!(rt;
+        gate.parts.are_once_each(workers),
+        "{workers} workers have parts"
+    );
+}
+
+#[test]
+fn gate_is_passed_once(rt: HostRuntime) -> Result<(), Fail> {
+    let alloc = rt.alloc();
+    let input = input_of(alloc, TWO_FILES)?;
+    for workers in WORKERS {
+        let gate = Counted::new(alloc)?;
+        drop(replay(&rt, alloc, &input, &by(workers), &gate)?);
+        check_counted(&rt, &gate, workers);
+        let gate = Counted::new(alloc)?;
+        drop(tally(&rt, alloc, &input, &by(workers), &gate)?);
+        check_counted(&rt, &gate, workers);
+    }
+    Ok(())
+}
+
+// The workers apply so many items in more than one go.
+#[test]
+fn gate_is_passed_once_by_many_items(rt: HostRuntime) -> Result<(), Fail> {
+    let alloc = rt.alloc();
+    let input = seconds_of(alloc, 132, 2_000)?;
+    for workers in [1, 2, 7] {
+        let gate = Counted::new(alloc)?;
+        let replayed = replay(&rt, alloc, &input, &by(workers), &gate)?;
+        check_counted(&rt, &gate, workers);
+        assert_eq!(rt; replayed.head.counts().accepted, 264_000);
+    }
+    Ok(())
+}
+
+// How many came in the first round, in the second and in any other.
+#[derive(Drop)]
+struct Turns {
+    first: AtomicU64,
+    second: AtomicU64,
+    others: AtomicU64,
+}
+
+impl Turns {
+    fn new() -> Turns {
+        Turns {
+            first: AtomicU64::new(0),
+            second: AtomicU64::new(0),
+            others: AtomicU64::new(0),
+        }
+    }
+
+    fn note(&self, turn: u64) {
+        let came = match turn {
+            0 => &self.first,
+            1 => &self.second,
+            _ => &self.others,
+        };
+        came.fetch_add(1, Ordering::SeqCst);
+    }
+
+    fn seen(&self) -> (u64, u64, u64) {
+        (
+            self.first.load(Ordering::SeqCst),
+            self.second.load(Ordering::SeqCst),
+            self.others.load(Ordering::SeqCst),
+        )
+    }
+}
+
+// A gate that notes in which rounds workers come.
+#[derive(Drop)]
+struct Noted {
+    passes: Turns,
+    parts: Turns,
+}
+
+impl Noted {
+    fn new() -> Noted {
+        Noted {
+            passes: Turns::new(),
+            parts: Turns::new(),
+        }
+    }
+}
+
+impl Gate for Noted {
+    fn pass(&self, _worker: usize, turn: u64) {
+        self.passes.note(turn);
+    }
+
+    fn part(&self, _worker: usize, turn: u64) {
+        self.parts.note(turn);
+    }
+}
+
+#[test]
+fn two_pages_take_two_rounds(rt: HostRuntime) -> Result<(), Fail> {
+    let alloc = rt.alloc();
+    let input = input_of(alloc, TWO_PAGES.log)?;
+    for (round_pages, seen) in [(1, (2, 2, 0)), (2, (2, 0, 0)), (usize::MAX, (2, 0, 0))] {
+        let options = Options {
+            workers: 2,
+            round_pages,
+        };
+        let gate = Noted::new();
+        let replayed = replay(&rt, alloc, &input, &options, &gate)?;
+        assert_eq!(rt; replayed.head.counts(), TWO_PAGES.counts);
+        assert_eq!(rt; gate.passes.seen(), seen, "passes of {round_pages} pages");
+        assert_eq!(rt; gate.parts.seen(), seen, "parts of {round_pages} pages");
+    }
+    Ok(())
+}
+
+#[test]
+fn no_round_behind_the_damage(rt: HostRuntime) -> Result<(), Fail> {
+    let alloc = rt.alloc();
+    let input = input_of(alloc, TWO_PAGES_CHANGED.log)?;
+    let options = Options {
+        workers: 2,
+        round_pages: 2,
+    };
+    let gate = Noted::new();
+    let tallied = tally(&rt, alloc, &input, &options, &gate)?;
+    assert_eq!(rt; tallied.damage, TWO_PAGES_CHANGED.damage);
+    assert_eq!(rt; gate.passes.seen(), (2, 2, 0));
+    assert_eq!(rt; gate.parts.seen(), (2, 2, 0));
+    Ok(())
+}
+
+// A gate that holds one worker up before it draws, long enough for the others to draw all there is.
+#[derive(Drop)]
+struct Late<C> {
+    clock: C,
+    worker: usize,
+}
+
+impl<C: Clock> Gate for Late<C> {
+    fn pass(&self, worker: usize, _turn: u64) {
+        if worker == self.worker {
+            thread::sleep(&self.clock, Duration::from_millis(20));
+        }
+    }
+
+    fn part(&self, _worker: usize, _turn: u64) {}
+}
+
+#[test]
+fn slow_worker_changes_nothing(rt: HostRuntime) -> Result<(), Fail> {
+    let alloc = rt.alloc();
+    let input = input_of(alloc, TWO_FILES)?;
+    let serial = replay_serial(alloc, &input)?;
+    let shown = views(alloc, &serial.head)?;
+    for worker in 0..3usize {
+        let gate = Late { clock: &rt, worker };
+        let replayed = replay(&rt, alloc, &input, &by(3), &gate)?;
+        assert_eq!(rt;
+            views(alloc, &replayed.head)?,
+            shown,
+            "worker {worker} is late"
+        );
+    }
+    Ok(())
+}
