@@ -74,9 +74,9 @@ fn length_of(file: &impl OpenFile) -> u64 {
 fn push_name<R: Files + Drop>(
     alloc: Global,
     names: &mut Vec<String>,
-    entry: &DirEntry<R>,
+    entry: io::Result<DirEntry<R>>,
 ) -> Result<(), StoreFault> {
-    let name = String::from_str(alloc, entry.file_name())?;
+    let name = String::from_str(alloc, entry?.file_name())?;
     names.push(name)?;
     Ok(())
 }
@@ -89,7 +89,7 @@ impl<R: Files + AllocGlobal + Clone + Drop> Store for Disk<'_, R> {
         let entries = fs::read_dir(self.rt, path)?;
         let mut names = Vec::new(alloc);
         for entry in entries {
-            push_name(alloc, &mut names, &entry?)?;
+            push_name(alloc, &mut names, entry)?;
         }
         Ok(names)
     }
