@@ -14,6 +14,4 @@ pub use directory::{join, names_in, read_in, read_log, written};
 pub use heads::undamaged_head;
 pub use meter::Meter;
 pub use progress::{Progress, extent_of};
-pub use prom_figures::Extent;
-pub use prom_store::{DamageLine, Disk, Fault, Status, Store, StoreFault};
 pub use spelling::read_pair;
