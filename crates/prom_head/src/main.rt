@@ -5,8 +5,7 @@ mod program;
 
 use crate::program::run;
 use prom_commands::{Answer, Meter};
-use prom_line::LineFault;
-use prom_store::{Disk, Fault, Status};
+use prom_store::{Disk, Fault, LineFault, Status};
 use std::env;
 use std::io::{ErrorKind, IsTerminal};
 use std::process::ExitCode;

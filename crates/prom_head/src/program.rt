@@ -3,8 +3,8 @@
 use block_commands::carry_out_block;
 use live_commands::carry_out_append;
 use prom_commands::{Answer, Progress, carry_out};
-use prom_line::{Asked, LineFault, parse};
-use prom_store::{Status, Store};
+use prom_line::{Asked, parse};
+use prom_store::{LineFault, Status, Store};
 use std::sync::Wait;
 use std::thread::Threads;
 

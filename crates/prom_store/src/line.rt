@@ -3,10 +3,10 @@
 ghost use Rattle.std.specs.Prelude.{◌≡◌, ◌↔◌};
 ghost use Rattle.clap.specs.Values.{kind_of};
 ghost use Rattle.clap.specs.declared.error.kind.ErrorKind.TheVariants as kind;
-ghost use Rattle.prom_line.specs.declared.fault.LineFault.TheVariants.{OutOfMemory};
+ghost use Rattle.prom_store.specs.declared.line.LineFault.TheVariants.{OutOfMemory};
 
+use crate::fault::Status;
 use clap::error::ErrorKind;
-use prom_store::Status;
 use std::alloc::{AllocError, AllocFailed};
 use thiserror::Error;
 
