@@ -1,15 +1,20 @@
 //! What a block holds.
 
-use crate::fault::of_block;
 use crate::parts::read_parts;
 use crate::report::block_text;
-use block_read::read_block;
-use prom_commands::{Answer, Fault, Status, Store};
+use block_read::{Block, read_block};
+use prom_commands::Answer;
+use prom_store::{Fault, Status, Store};
 use std::alloc::Global;
+
+// Says what the block of these parts holds.
+fn told(alloc: Global, parts: &Block) -> Result<Answer, Fault> {
+    let rows = read_block(alloc, parts)?;
+    Ok(Answer::done(block_text(alloc, &rows)?, Status::Done))
+}
 
 /// Says what the block in a folder holds.
 pub fn block<S: Store>(alloc: Global, store: &mut S, path: &str) -> Result<Answer, Fault> {
     let parts = read_parts(alloc, store, path)?;
-    let rows = read_block(alloc, &parts).map_err(of_block)?;
-    Ok(Answer::done(block_text(alloc, &rows)?, Status::Done))
+    told(alloc, &parts)
 }

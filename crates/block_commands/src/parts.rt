@@ -2,7 +2,8 @@
 
 use block_read::Block;
 use hw_bytes::Items;
-use prom_commands::{Fault, Store, join, names_in, read_in};
+use prom_commands::{join, names_in, read_in};
+use prom_store::{Fault, Store};
 use std::alloc::{AllocError, Global};
 
 /// The name of a chunk file, the files being counted from 1.

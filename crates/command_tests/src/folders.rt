@@ -1,12 +1,11 @@
 //! Blocks written into folders, and read from them.
 
-use crate::block_bytes::{ULID, assert_names};
-use crate::runs::same;
+use crate::checks::{ULID, assert_names, same};
 use crate::shelf::Shelf;
 use block_commands::{read_parts, write_block};
 use block_read::{Block, Ulid};
 use hw_bytes::Items;
-use prom_commands::{Fault, Store, StoreFault};
+use prom_store::{Fault, Store, StoreFault};
 use std::alloc::{AllocError, Global};
 use std::process::Abort;
 

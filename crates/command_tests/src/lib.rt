@@ -1,28 +1,19 @@
-//! Tests of the program's commands, over a store in memory.
+//! Tests of the program's commands over a store in memory of which a call can fail, of the store of real files, of what a terminal is told,
+//! and of how a command line says that a log is to be replayed. What whole runs print and leave is in examples/cases.
 #![tactic(auto)]
 
 #[cfg(test)]
-mod append_runs;
+mod checks;
 #[cfg(test)]
-mod block_bytes;
-#[cfg(test)]
-mod block_runs;
-#[cfg(test)]
-mod cut_runs;
-#[cfg(test)]
-mod directories;
+mod failing;
 #[cfg(test)]
 mod folders;
 #[cfg(test)]
 mod fragments;
 #[cfg(test)]
-mod listing;
-#[cfg(test)]
 mod meters;
 #[cfg(test)]
-mod replays;
-#[cfg(test)]
-mod runs;
+mod options;
 #[cfg(test)]
 mod shelf;
 #[cfg(test)]

@@ -1,9 +1,12 @@
 //! The line on a terminal that says how far a replay is.
 
+use crate::checks::same;
 use crate::fragments::{SAMPLES_1_AT_1000_1015, SERIES_1_JOB_API};
-use crate::runs::{same, shelf_with};
+use crate::shelf::Shelf;
 use head_replay::{Gate, NoGate, Options};
-use prom_commands::{Extent, Meter, Progress, Request, StoreFault, carry_out};
+use prom_commands::{Meter, Progress, Request, carry_out};
+use prom_figures::Extent;
+use prom_store::StoreFault;
 use std::alloc::Global;
 use std::cell::{Cell, RefCell};
 use std::fmt::Display;
@@ -185,12 +188,11 @@ fn goes_on_where_nothing_can_be_written(rt: HostRuntime) -> Result<(), StoreFaul
     meter.pass(0, 2);
     meter.end();
     same(&rt, "writes", terminal.writes.load(Ordering::SeqCst), 3);
-    let files: [(&str, &[u8]); 3] = [
-        ("00000000", SERIES_1_JOB_API),
-        ("00000001", SAMPLES_1_AT_1000_1015),
-        ("00000002", SAMPLES_1_AT_1000_1015),
-    ];
-    let mut shelf = shelf_with(alloc, &files)?;
+    let mut shelf = Shelf::new(alloc)?;
+    shelf.put_dir("log")?;
+    shelf.put("log/00000000", SERIES_1_JOB_API)?;
+    shelf.put("log/00000001", SAMPLES_1_AT_1000_1015)?;
+    shelf.put("log/00000002", SAMPLES_1_AT_1000_1015)?;
     let want = carry_out(&rt, alloc, &mut shelf, &NoGate, REPLAY_BY_PAGES);
     let found = carry_out(&rt, alloc, &mut shelf, &meter, REPLAY_BY_PAGES);
     let (found, want) = (

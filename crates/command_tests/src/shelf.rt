@@ -1,6 +1,6 @@
 //! A store in memory, for tests, in which one call fails.
 
-use prom_commands::{Store, StoreFault};
+use prom_store::{Store, StoreFault};
 use std::alloc::{AllocError, Global};
 use std::cell::{RefCell, RefMut};
 use std::io;
@@ -137,15 +137,6 @@ impl Shelf {
         let alloc = self.alloc;
         let bytes = Vec::from_slice(alloc, bytes)?;
         open(&self.contents)?.add(alloc, path, Content::File(bytes))
-    }
-
-    /// Takes a file away, or a directory with all that is in it, with no call counted.
-    pub fn take_away(&mut self, path: &str) -> Result<(), StoreFault> {
-        let mut contents = open(&self.contents)?;
-        contents
-            .entries
-            .retain(|entry| rest_of(entry.path.as_str(), path).is_none());
-        Ok(())
     }
 
     /// Has the call of this number fail, 1 being the first.

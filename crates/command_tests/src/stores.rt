@@ -1,8 +1,8 @@
 //! Each call of both stores.
 
-use crate::runs::{names, same};
+use crate::checks::{names, same};
 use crate::shelf::Shelf;
-use prom_commands::{Disk, Store, StoreFault, read_whole};
+use prom_store::{Disk, Store, StoreFault, read_whole};
 use std::alloc::Global;
 use std::io::{ErrorKind, Read, Write};
 use std::process::Abort;

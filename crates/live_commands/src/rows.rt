@@ -1,7 +1,8 @@
 //! The rows of a file.
 
 use head_live::RawRow;
-use prom_commands::{Fault, read_pair};
+use prom_commands::read_pair;
+use prom_store::Fault;
 use std::alloc::{AllocError, Global};
 use std::str;
 

@@ -1,9 +1,8 @@
 //! A gate that says on a terminal how far a replay is.
 
-use crate::line::Line;
-use crate::pacer::Pacer;
-use crate::progress::{Extent, Progress};
+use crate::progress::Progress;
 use head_replay::Gate;
+use prom_figures::{Extent, Line, Pacer};
 use std::mem;
 use std::sync::Mutex;
 use std::time::Clock;

@@ -7,16 +7,8 @@ ghost use Rattle.wal_log.specs.Inputs.{total_len};
 ghost use Rattle.wal_log.specs.Runs.{log_pages};
 
 use head_replay::{Gate, NoGate, Options};
+use prom_figures::Extent;
 use wal_log::{Input, Segment, pages};
-
-/// How much there is to replay.
-#[derive(Clone, Copy, Debug, PartialEq, Eq)]
-pub struct Extent {
-    pub pages: u64,
-    pub bytes: u64,
-    /// How many pages are taken in a round.
-    pub round_pages: u64,
-}
 
 /// A gate that is told when a replay begins and when it ends, so that it can say how far it is.
 pub trait Progress: Gate {

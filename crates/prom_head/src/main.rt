@@ -1,15 +1,11 @@
 //! Reads the write-ahead log of a time series database and prints what it holds, or cuts an hour of it into a block.
 #![tactic(auto)]
 
-mod fault;
-mod options;
 mod program;
-#[cfg(test)]
-mod tests;
 
-use crate::fault::LineFault;
 use crate::program::run;
-use prom_commands::{Answer, Disk, Fault, Meter, Status};
+use prom_commands::{Answer, Meter};
+use prom_store::{Disk, Fault, LineFault, Status};
 use std::env;
 use std::io::{ErrorKind, IsTerminal};
 use std::process::ExitCode;

@@ -1,10 +1,10 @@
 //! The program, over any store.
 
-use crate::fault::LineFault;
-use crate::options::{Asked, parse};
 use block_commands::carry_out_block;
 use live_commands::carry_out_append;
-use prom_commands::{Answer, Progress, Status, Store, carry_out};
+use prom_commands::{Answer, Progress, carry_out};
+use prom_line::{Asked, parse};
+use prom_store::{LineFault, Status, Store};
 use std::sync::Wait;
 use std::thread::Threads;
 

@@ -1,0 +1,41 @@
+//! What tests hold against what is wanted.
+
+use crate::shelf::Shelf;
+use prom_store::{Store, StoreFault};
+use std::alloc::Global;
+use std::fmt::Debug;
+use std::process::Abort;
+
+/// The name of all blocks of the tests.
+pub const ULID: &str = "01ARZ3NDEKTSV4RRFFQ69G5FAV";
+
+/// Ends the test where what a case gives is not what it is to give.
+pub fn same<C: Debug + Drop, T: PartialEq + Debug + Drop>(
+    rt: &impl Abort,
+    case: C,
+    found: T,
+    wanted: T,
+) {
+    assert_eq!(rt; found, wanted, "at {case:?}");
+}
+
+/// The names in a directory, each behind a space.
+pub fn names<S: Store>(alloc: Global, store: &mut S, dir: &str) -> Result<String, StoreFault> {
+    let mut text = String::new(alloc);
+    for name in store.read_dir(dir)? {
+        write!(text, " {name}")?;
+    }
+    Ok(text)
+}
+
+/// Ends the test unless just these names are in a directory, each behind a space, in the order in which they were made.
+pub fn assert_names<R: Abort + AllocGlobal>(
+    rt: &R,
+    shelf: &mut Shelf,
+    dir: &str,
+    wanted: &str,
+) -> Result<(), StoreFault> {
+    let found = names(rt.alloc(), shelf, dir)?;
+    same(rt, dir, found.as_str(), wanted);
+    Ok(())
+}

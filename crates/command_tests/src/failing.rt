@@ -1,0 +1,332 @@
+//! Commands over a store of which one call fails. What they print and leave where none fails is in examples/cases.
+
+use crate::checks::{ULID, assert_names, same};
+use crate::fragments::*;
+use crate::shelf::Shelf;
+use block_commands::{BlockRequest, CutRequest, carry_out_block};
+use head_replay::{NoGate, Options};
+use live_commands::{AppendRequest, carry_out_append};
+use prom_commands::{Answer, Request, carry_out};
+use prom_line::Asked;
+use prom_store::StoreFault;
+use std::alloc::{AllocError, Global};
+use std::process::Abort;
+use std::sync::Wait;
+use std::thread::Threads;
+
+// How logs are replayed. What is found does not depend on it.
+const OPTIONS: [Options; 4] = [
+    Options {
+        workers: 1,
+        round_pages: 256,
+    },
+    Options {
+        workers: 2,
+        round_pages: 1,
+    },
+    Options {
+        workers: 7,
+        round_pages: 2,
+    },
+    Options {
+        workers: 64,
+        round_pages: 65_536,
+    },
+];
+
+// Stands where one of these takes its place.
+const ANY: Options = Options {
+    workers: 4,
+    round_pages: 256,
+};
+
+// What a run leaves: its status, what it prints, and what it says.
+type Left = (u8, &'static str, &'static str);
+
+const OUT_OF_MEMORY: Left = (4, "", "out of memory");
+
+// What is asked of a store, of which one call then fails.
+#[derive(Clone, Copy)]
+struct Case {
+    // What stands there: directories, whose paths end in `/`, and files with their bytes.
+    standing: &'static [(&'static str, &'static [u8])],
+    asked: Asked<'static>,
+    // Of which directory the names are looked at afterwards.
+    dir: &'static str,
+}
+
+fn shelf_of(alloc: Global, case: &Case) -> Result<Shelf, StoreFault> {
+    let mut shelf = Shelf::new(alloc)?;
+    for (path, bytes) in case.standing {
+        match path.strip_suffix('/') {
+            Some(dir) => shelf.put_dir(dir)?,
+            None => shelf.put(path, bytes)?,
+        }
+    }
+    Ok(shelf)
+}
+
+fn replayed_by(asked: Asked<'_>, options: Options) -> Asked<'_> {
+    match asked {
+        Asked::OfBlocks(BlockRequest::Cut(request)) => {
+            Asked::OfBlocks(BlockRequest::Cut(CutRequest { options, ..request }))
+        }
+        Asked::Append(request) => Asked::Append(AppendRequest { options, ..request }),
+        asked => asked,
+    }
+}
+
+fn carried_out<R: Threads + Wait + Sync + AllocGlobal>(
+    rt: &R,
+    shelf: &mut Shelf,
+    asked: Asked<'_>,
+) -> Answer {
+    let alloc = rt.alloc();
+    match asked {
+        Asked::OfLog(request) => carry_out(rt, alloc, shelf, &NoGate, request),
+        Asked::OfBlocks(request) => carry_out_block(rt, alloc, shelf, &NoGate, request),
+        Asked::Append(request) => carry_out_append(rt, alloc, shelf, &NoGate, request),
+    }
+}
+
+// What is said of an answer on standard error.
+fn complaint(alloc: Global, answer: &Answer) -> Result<String, AllocError> {
+    match &answer.fault {
+        Some(fault) => fault.to_string(alloc),
+        None => Ok(String::new(alloc)),
+    }
+}
+
+// Carries out what is asked for where a call of the store fails: what it is to leave, and the names that are then in the directory. Gives
+// how many calls there were.
+fn assert_run<R: Abort + Threads + Wait + Sync + AllocGlobal>(
+    rt: &R,
+    case: &Case,
+    asked: Asked<'_>,
+    (call, fault): (u64, StoreFault),
+    (left, names): (Left, &str),
+) -> Result<u64, StoreFault> {
+    let mut shelf = shelf_of(rt.alloc(), case)?;
+    shelf.fail(call, fault)?;
+    let answer = carried_out(rt, &mut shelf, asked);
+    let said = complaint(rt.alloc(), &answer)?;
+    let found = (answer.status as u8, answer.printed.as_str(), said.as_str());
+    same(rt, call, found, left);
+    let calls = shelf.calls()?;
+    // no call fails from here on
+    shelf.fail(0, fault)?;
+    assert_names(rt, &mut shelf, case.dir, names)?;
+    Ok(calls)
+}
+
+// The same with each of the options, where just so many calls are made.
+fn assert_calls<R: Abort + Threads + Wait + Sync + AllocGlobal>(
+    rt: &R,
+    case: &Case,
+    failure: (u64, StoreFault),
+    wanted: (Left, &str),
+    calls: u64,
+) -> Result<(), StoreFault> {
+    for options in OPTIONS {
+        let asked = replayed_by(case.asked, options);
+        let made = assert_run(rt, case, asked, failure, wanted)?;
+        same(rt, failure, made, calls);
+    }
+    Ok(())
+}
+
+// Each call fails, the first being 1, and then none. No call is made after one that failed.
+fn assert_each<R: Abort + Threads + Wait + Sync + AllocGlobal>(
+    rt: &R,
+    case: &Case,
+    calls: &[(&'static str, &str)],
+    done: (Left, &str),
+) -> Result<(), StoreFault> {
+    for (call, (said, names)) in (1..).zip(calls) {
+        let refused = ((3, "", *said), *names);
+        assert_calls(rt, case, (call, StoreFault::Refused), refused, call)?;
+        let out = (OUT_OF_MEMORY, *names);
+        assert_calls(rt, case, (call, StoreFault::OutOfMemory), out, call)?;
+    }
+    let all = calls.len() as u64;
+    let past = (all.saturating_add(1), StoreFault::Refused);
+    assert_calls(rt, case, past, done, all)
+}
+
+// The last two segments are damaged.
+const RECORDS: Case = Case {
+    standing: &[
+        ("log/", b""),
+        ("log/00000005", RECORD_OF_NO_BYTES),
+        ("log/00000007", OF_BAD_TYPE),
+        ("log/00000006", OF_BAD_TYPE),
+        ("log/checkpoint.00000004/", b""),
+        ("log/checkpoint.00000004/00000000", RECORD_OF_NO_BYTES),
+    ],
+    asked: Asked::OfLog(Request::Records { dir: "log" }),
+    dir: "log/checkpoint.00000004",
+};
+
+// Names are looked at first, then files are read in the order of the log, and then the bytes are looked at.
+#[test]
+fn each_read_of_a_log_fails(rt: HostRuntime) -> Result<(), StoreFault> {
+    let names = " 00000000";
+    let calls = [
+        ("cannot read log", names),
+        ("cannot read log/checkpoint.00000004", names),
+        ("cannot read log/checkpoint.00000004/00000000", names),
+        ("cannot read log/00000005", names),
+        ("cannot read log/00000006", names),
+        ("cannot read log/00000007", names),
+    ];
+    let listed = "checkpoint 00000000 0 skipped 0\nsegment 00000005 0 skipped 0\n\
+        damage segment 00000006 offset 0 kind 3 BadType\n";
+    assert_each(&rt, &RECORDS, &calls, ((1, listed, ""), names))
+}
+
+// None of the parts is what it should be.
+const BLOCK: Case = Case {
+    standing: &[
+        ("b/", b""),
+        ("b/chunks/", b""),
+        ("b/index", b"index"),
+        ("b/chunks/000001", b"chunks"),
+        ("b/tombstones", b"tombstones"),
+        ("b/meta.json", b"meta"),
+    ],
+    asked: Asked::OfBlocks(BlockRequest::Block { path: "b" }),
+    dir: "b/chunks",
+};
+
+// All parts are read before one is judged.
+#[test]
+fn each_read_of_a_block_fails(rt: HostRuntime) -> Result<(), StoreFault> {
+    let names = " 000001";
+    let calls = [
+        ("cannot read b/index", names),
+        ("cannot read b/chunks", names),
+        ("cannot read b/chunks/000001", names),
+        ("cannot read b/tombstones", names),
+        ("cannot read b/meta.json", names),
+    ];
+    let bad = (1, "", "bad index BadMagic");
+    assert_each(&rt, &BLOCK, &calls, (bad, names))
+}
+
+const CUT: Case = Case {
+    standing: &[
+        ("log/", b""),
+        ("log/00000000", THREE_SERIES),
+        ("log/00000001", SAMPLES_OF_THREE_SERIES),
+        ("out/", b""),
+    ],
+    asked: Asked::OfBlocks(BlockRequest::Cut(CutRequest {
+        dir: "log",
+        hour: 0,
+        ulid: ULID,
+        out: "out",
+        options: ANY,
+    })),
+    dir: "out",
+};
+
+const NOT_BEGUN: &str = "cannot write out/01ARZ3NDEKTSV4RRFFQ69G5FAV.tmp";
+
+const NO_CHUNKS: &str = "cannot write out/01ARZ3NDEKTSV4RRFFQ69G5FAV.tmp/chunks";
+
+const NO_INDEX: &str = "cannot write out/01ARZ3NDEKTSV4RRFFQ69G5FAV.tmp/index";
+
+const NO_CHUNK: &str = "cannot write out/01ARZ3NDEKTSV4RRFFQ69G5FAV.tmp/chunks/000001";
+
+const NO_STONES: &str = "cannot write out/01ARZ3NDEKTSV4RRFFQ69G5FAV.tmp/tombstones";
+
+const NO_META: &str = "cannot write out/01ARZ3NDEKTSV4RRFFQ69G5FAV.tmp/meta.json";
+
+const NO_BLOCK: &str = "cannot write out/01ARZ3NDEKTSV4RRFFQ69G5FAV";
+
+const BESIDE: &str = " 01ARZ3NDEKTSV4RRFFQ69G5FAV.tmp";
+
+// The log is read; the directory is listed, two are made, each file is made, written and synced, then the two directories are synced, and
+// the last one is renamed. The block's folder is whole or not there.
+#[test]
+fn each_call_of_cut_fails(rt: HostRuntime) -> Result<(), StoreFault> {
+    let calls = [
+        ("cannot read log", ""),
+        ("cannot read log/00000000", ""),
+        ("cannot read log/00000001", ""),
+        (NOT_BEGUN, ""),
+        (NOT_BEGUN, ""),
+        (NO_CHUNKS, BESIDE),
+        (NO_INDEX, BESIDE),
+        (NO_INDEX, BESIDE),
+        (NO_INDEX, BESIDE),
+        (NO_CHUNK, BESIDE),
+        (NO_CHUNK, BESIDE),
+        (NO_CHUNK, BESIDE),
+        (NO_STONES, BESIDE),
+        (NO_STONES, BESIDE),
+        (NO_STONES, BESIDE),
+        (NO_META, BESIDE),
+        (NO_META, BESIDE),
+        (NO_META, BESIDE),
+        (NO_CHUNKS, BESIDE),
+        (NOT_BEGUN, BESIDE),
+        (NO_BLOCK, BESIDE),
+    ];
+    let done = (0, "samples 3\nseries 2\nchunks 2\n", "");
+    assert_each(&rt, &CUT, &calls, (done, " 01ARZ3NDEKTSV4RRFFQ69G5FAV"))
+}
+
+const APPEND: Case = Case {
+    standing: &[
+        ("log/", b""),
+        ("log/00000000", SERIES_1_JOB_API),
+        ("rows", b"1030 8 job=api\n"),
+    ],
+    asked: Asked::Append(AppendRequest {
+        dir: "log",
+        rows: "rows",
+        options: ANY,
+    }),
+    dir: "log",
+};
+
+const APPENDED: Left = (0, "accepted\nsegment 00000001\n", "");
+
+const NOT_WRITTEN: Left = (3, "", "cannot write log/00000001");
+
+// The log is listed, its segment and the rows are read, the segment is claimed, what a killed run may have left is taken away, the file
+// beside the segment is made, written and synced, it takes the segment's place, and the directory is synced. Where one of the last five
+// fails, both files are taken away by two calls more.
+const CALLS_OF_APPEND: [(u64, Left, Left, u64); 11] = [
+    (1, (3, "", "cannot read log"), OUT_OF_MEMORY, 1),
+    (2, (3, "", "cannot read log/00000000"), OUT_OF_MEMORY, 2),
+    (3, (3, "", "cannot read rows"), OUT_OF_MEMORY, 3),
+    (4, NOT_WRITTEN, OUT_OF_MEMORY, 4),
+    (5, APPENDED, APPENDED, 10),
+    (6, NOT_WRITTEN, OUT_OF_MEMORY, 8),
+    (7, NOT_WRITTEN, NOT_WRITTEN, 9),
+    (8, NOT_WRITTEN, OUT_OF_MEMORY, 10),
+    (9, NOT_WRITTEN, OUT_OF_MEMORY, 11),
+    (10, NOT_WRITTEN, OUT_OF_MEMORY, 12),
+    // there is no such call
+    (11, APPENDED, APPENDED, 10),
+];
+
+#[test]
+fn each_call_of_append_fails(rt: HostRuntime) -> Result<(), StoreFault> {
+    for (call, refused, out, calls) in CALLS_OF_APPEND {
+        for (fault, left) in [
+            (StoreFault::Refused, refused),
+            (StoreFault::OutOfMemory, out),
+        ] {
+            let names = if left == APPENDED {
+                " 00000000 00000001"
+            } else {
+                " 00000000"
+            };
+            assert_calls(&rt, &APPEND, (call, fault), (left, names), calls)?;
+        }
+    }
+    Ok(())
+}

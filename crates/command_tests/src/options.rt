@@ -1,0 +1,119 @@
+//! How the words of a command line say that a log is to be replayed, and which faults no run can be brought to. What is said of wrong words,
+//! and what help prints, is in examples/cases.
+
+use crate::checks::same;
+use block_commands::{BlockRequest, CutRequest};
+use head_replay::Options;
+use live_commands::AppendRequest;
+use prom_commands::Request;
+use prom_line::{Asked, parse};
+use prom_store::Fault;
+use std::alloc::{AllocError, Global};
+use std::process::Abort;
+
+// The words of a line, which are parted by spaces.
+fn words(alloc: Global, line: &str) -> Result<Vec<String>, AllocError> {
+    let mut words = Vec::new(alloc);
+    for word in line.split(' ') {
+        words.push(String::from_str(alloc, word)?)?;
+    }
+    Ok(words)
+}
+
+const SEVEN: Options = Options {
+    workers: 7,
+    round_pages: 300,
+};
+
+fn replay(workers: usize, round_pages: usize) -> Asked<'static> {
+    Asked::OfLog(Request::Replay {
+        dir: "log",
+        options: Options {
+            workers,
+            round_pages,
+        },
+    })
+}
+
+fn assert_asked<R: Abort + AllocGlobal>(
+    rt: &R,
+    line: &str,
+    wanted: Asked<'_>,
+) -> Result<(), AllocError> {
+    let words = words(rt.alloc(), line)?;
+    same(rt, line, parse(rt.alloc(), &words).ok(), Some(wanted));
+    Ok(())
+}
+
+// How the log is replayed, and how where nothing is said of it.
+#[test]
+fn options_of_replay(rt: HostRuntime) -> Result<(), AllocError> {
+    for (line, workers, round_pages) in [
+        ("prom_head replay log", 4, 256),
+        ("prom_head replay log --workers=1", 1, 256),
+        ("prom_head replay --workers 64 log", 64, 256),
+        ("prom_head replay log --round-pages=1", 4, 1),
+        (
+            "prom_head replay --round-pages 65536 log --workers=007",
+            7,
+            65_536,
+        ),
+    ] {
+        assert_asked(&rt, line, replay(workers, round_pages))?;
+    }
+    Ok(())
+}
+
+#[test]
+fn options_of_each_command(rt: HostRuntime) -> Result<(), AllocError> {
+    let (dir, rows, options) = ("log", "rows", SEVEN);
+    let series = Request::Series {
+        dir,
+        pair: None,
+        options,
+    };
+    let cut = CutRequest {
+        dir,
+        hour: -1,
+        ulid: "01ARZ3NDEKTSV4RRFFQ69G5FAV",
+        out: "out",
+        options,
+    };
+    for (line, wanted) in [
+        ("replay log", replay(7, 300)),
+        ("series log", Asked::OfLog(series)),
+        (
+            "ranges log",
+            Asked::OfBlocks(BlockRequest::Ranges { dir, options }),
+        ),
+        (
+            "cut log --hour=-1 --ulid=01ARZ3NDEKTSV4RRFFQ69G5FAV --out=out",
+            Asked::OfBlocks(BlockRequest::Cut(cut)),
+        ),
+        (
+            "append log --rows=rows",
+            Asked::Append(AppendRequest { dir, rows, options }),
+        ),
+    ] {
+        let line = format!(in rt.alloc(); "prom_head {line} --workers=7 --round-pages=300")?;
+        assert_asked(&rt, &line, wanted)?;
+    }
+    Ok(())
+}
+
+fn assert_fault<R: Abort + AllocGlobal>(
+    rt: &R,
+    fault: Fault,
+    wanted: (u8, &str),
+) -> Result<(), AllocError> {
+    let text = fault.to_string(rt.alloc())?;
+    same(rt, wanted.1, (fault.status() as u8, text.as_str()), wanted);
+    Ok(())
+}
+
+// That rows are longer than a segment of 134,217,728 bytes is shown of the log's writer, in small. No run here is refused a thread.
+#[test]
+fn faults_of_no_run(rt: HostRuntime) -> Result<(), AllocError> {
+    assert_fault(&rt, Fault::SegmentFull, (3, "rows do not fit one segment"))?;
+    assert_fault(&rt, Fault::Workers, (4, "a thread could not start"))
+}

@@ -1,0 +1,40 @@
+//! How much a block holds.
+
+ghost use Rattle.std.specs.Prelude.{◌≡◌, length};
+ghost use Rattle.prom_figures.specs.Counts.{chunk_count, hidden_count, sample_count};
+
+use block_read::BlockRow;
+use head_column::CHUNK_SAMPLES;
+
+/// How much a block holds. A count past 64 bits, which no block in memory has, stays at the greatest.
+#[derive(Clone, Copy, Debug, PartialEq, Eq)]
+pub struct Counts {
+    pub samples: u64,
+    pub series: u64,
+    pub chunks: u64,
+    /// The runs of hidden times.
+    pub hidden: u64,
+}
+
+/// How much these rows hold.
+pub fn counts_of(rows: &[BlockRow]) -> Counts
+    ensures samples { result.samples ≡ sample_count rows.now }
+    ensures series { result.series ≡ length rows.now }
+    ensures chunks { result.chunks ≡ chunk_count rows.now }
+    ensures hidden { result.hidden ≡ hidden_count rows.now }
+{
+    let mut counts = Counts {
+        samples: 0,
+        series: rows.len() as u64,
+        chunks: 0,
+        hidden: 0,
+    };
+    for row in rows {
+        let samples = row.samples.len();
+        let chunks = samples.div_ceil(CHUNK_SAMPLES);
+        counts.samples = counts.samples.saturating_add(samples as u64);
+        counts.chunks = counts.chunks.saturating_add(chunks as u64);
+        counts.hidden = counts.hidden.saturating_add(row.hidden.len() as u64);
+    }
+    counts
+}

@@ -1,0 +1,10 @@
+//! How much there is to replay.
+
+/// How much there is to replay.
+#[derive(Clone, Copy, Debug, PartialEq, Eq)]
+pub struct Extent {
+    pub pages: u64,
+    pub bytes: u64,
+    /// How many pages are taken in a round.
+    pub round_pages: u64,
+}

@@ -1,0 +1,15 @@
+//! The figures that the program tells: how far a replay is, and when a terminal is told; how much a block holds, and when an hour
+//! begins and has ended. Nothing here reads a log or writes to a terminal.
+#![tactic(auto)]
+
+mod counts;
+mod extent;
+mod hours;
+mod line;
+mod pacer;
+
+pub use counts::{Counts, counts_of};
+pub use extent::Extent;
+pub use hours::ends;
+pub use line::Line;
+pub use pacer::Pacer;

@@ -1,0 +1,254 @@
+//! How a run can end.
+
+ghost use Rattle.std.specs.Prelude.{◌≡◌, ◌↔◌, ◌⊎◌};
+ghost use Rattle.wal_log.specs.declared.plan.PlanFault.TheVariants as plan;
+ghost use Rattle.wal_log.specs.declared.input.InputFault.TheVariants as input;
+ghost use Rattle.block_index.specs.declared.fault.ReadFault.TheVariants as index;
+ghost use Rattle.block_read.specs.declared.fault.BlockFault.TheVariants as block;
+ghost use Rattle.head_replay.specs.declared.fault.ReplayFault.TheVariants as replay;
+ghost use Rattle.prom_store.specs.declared.fault.Fault.TheVariants.{Full, OutOfMemory, TooLarge, Workers};
+
+use crate::damage::DamageLine;
+use crate::store::StoreFault;
+use block_index::ReadFault;
+use block_read::BlockFault;
+use head_replay::ReplayFault;
+use std::alloc::{AllocError, AllocFailed, Global};
+use std::error::Error;
+use std::fmt;
+use std::process::ExitCode;
+use wal_log::{InputFault, InputRefused, PlanFault};
+
+/// The program's exit status.
+#[derive(Clone, Copy, Debug, PartialEq, Eq)]
+pub enum Status {
+    Done = 0,
+    /// The log is damaged, or the block is. Of a log, what stands before the damage was printed, but where a block was to be made
+    /// of it.
+    Damaged = 1,
+    /// The arguments are wrong. Nothing was read.
+    Usage = 2,
+    /// Input or output failed, or what was asked cannot be done.
+    Refused = 3,
+    /// Memory ran out, or a thread could not start.
+    Exhausted = 4,
+}
+
+impl From<Status> for ExitCode {
+    fn from(status: Status) -> ExitCode {
+        ExitCode::from(status as u8)
+    }
+}
+
+/// Why a command failed. Its `Display` is what is said of it on standard error, after the program's name.
+#[derive(Drop)]
+pub enum Fault {
+    /// The option `--pair` is no label as it is printed.
+    NoPair,
+    /// The option `--ulid` is no name of a block.
+    BadUlid,
+    /// The log is damaged. What stands before the damage was printed, but where a block was to be made of it.
+    Damage(DamageLine),
+    /// The index of a block is none.
+    BadIndex(ReadFault),
+    /// The chunk files of a block are not those of its index.
+    BadChunks,
+    /// The tombstones of a block are not those of any hidden times of its series.
+    BadTombstones,
+    /// meta.json of a block does not say what the block holds.
+    BadMeta,
+    /// The file or directory at this path was not read.
+    CannotRead { path: String },
+    /// The file or directory at this path was not written.
+    CannotWrite { path: String },
+    /// The hour begins before the least time or ends past the greatest, or none of its times is one of 64 bits.
+    Edge,
+    /// No accepted sample is at or past the end of the hour.
+    NotFull,
+    /// No accepted sample is in the hour.
+    NoSamples,
+    /// A number is missing between two files of the log, or two files have one number.
+    Gap,
+    /// All files of the log together have 2^64 bytes or more, or a block would be larger than its index can say.
+    TooLarge,
+    /// The log has more series, label texts or entries than a head may have.
+    Full,
+    /// A line of the file of rows, counted from 1, is none.
+    NotARow { line: u64 },
+    /// A row has a label with no name.
+    EmptyLabelName { line: u64 },
+    /// A row has a label whose name is not past that of the one before it.
+    LabelsNotAscending { line: u64 },
+    /// A new label set would need a reference past 2^64 - 1.
+    RefsSpent,
+    /// What is logged of the rows is longer than a segment.
+    SegmentFull,
+    OutOfMemory,
+    /// A thread could not start.
+    Workers,
+}
+
+impl Fault {
+    /// Why the file or directory at `path` was not read. `OutOfMemory` too where the path cannot be copied.
+    pub fn cannot_read(alloc: Global, path: &str, fault: StoreFault) -> Fault {
+        match (fault, String::from_str(alloc, path)) {
+            (StoreFault::Refused, Ok(path)) => Fault::CannotRead { path },
+            _ => Fault::OutOfMemory,
+        }
+    }
+
+    /// Why the file or directory at `path` was not written. `OutOfMemory` too where the path cannot be copied.
+    pub fn cannot_write(alloc: Global, path: &str, fault: StoreFault) -> Fault {
+        match (fault, String::from_str(alloc, path)) {
+            (StoreFault::Refused, Ok(path)) => Fault::CannotWrite { path },
+            _ => Fault::OutOfMemory,
+        }
+    }
+
+    // What is said of it, but for what it holds.
+    fn text(&self) -> &'static str {
+        match self {
+            Fault::NoPair => "pair must be NAME=VALUE",
+            Fault::BadUlid => "ulid must be 26 Crockford characters",
+            // its line says all
+            Fault::Damage(_) => "",
+            Fault::BadIndex(_) => "bad index",
+            Fault::BadChunks => "bad chunks",
+            Fault::BadTombstones => "bad tombstones",
+            Fault::BadMeta => "bad meta",
+            Fault::CannotRead { .. } => "cannot read",
+            Fault::CannotWrite { .. } => "cannot write",
+            Fault::Edge => "hour at the edge of time",
+            Fault::NotFull => "hour not full",
+            Fault::NoSamples => "no samples in hour",
+            Fault::Gap => "gap in segment numbers",
+            Fault::TooLarge => "too large",
+            Fault::Full => "too many series",
+            Fault::NotARow { .. } => "not a row",
+            Fault::EmptyLabelName { .. } => "empty label name",
+            Fault::LabelsNotAscending { .. } => "label names not ascending",
+            Fault::RefsSpent => "references spent",
+            Fault::SegmentFull => "rows do not fit one segment",
+            Fault::OutOfMemory => "out of memory",
+            Fault::Workers => "a thread could not start",
+        }
+    }
+
+    /// The status that the program ends with.
+    pub fn status(&self) -> Status {
+        match self {
+            Fault::NoPair | Fault::BadUlid => Status::Usage,
+            Fault::Damage(_)
+            | Fault::BadIndex(_)
+            | Fault::BadChunks
+            | Fault::BadTombstones
+            | Fault::BadMeta => Status::Damaged,
+            Fault::CannotRead { .. }
+            | Fault::CannotWrite { .. }
+            | Fault::Gap
+            | Fault::TooLarge
+            | Fault::Full
+            | Fault::NotARow { .. }
+            | Fault::EmptyLabelName { .. }
+            | Fault::LabelsNotAscending { .. }
+            | Fault::RefsSpent
+            | Fault::SegmentFull
+            | Fault::Edge
+            | Fault::NotFull
+            | Fault::NoSamples => Status::Refused,
+            Fault::OutOfMemory | Fault::Workers => Status::Exhausted,
+        }
+    }
+}
+
+impl fmt::Display for Fault {
+    fn fmt<W: fmt::Write>(&self, f: &mut fmt::Formatter<W>) -> fmt::Result {
+        let text = self.text();
+        match self {
+            Fault::Damage(line) => write!(f, "{line}"),
+            Fault::BadIndex(fault) => write!(f, "{text} {fault}"),
+            Fault::CannotRead { path } | Fault::CannotWrite { path } => write!(f, "{text} {path}"),
+            Fault::NotARow { line }
+            | Fault::EmptyLabelName { line }
+            | Fault::LabelsNotAscending { line } => write!(f, "line {line}: {text}"),
+            _ => f.write_str(text),
+        }
+    }
+}
+
+// As it is displayed: one that is derived is dear to prove.
+impl fmt::Debug for Fault {
+    fn fmt<W: fmt::Write>(&self, f: &mut fmt::Formatter<W>) -> fmt::Result {
+        fmt::Display::fmt(self, f)
+    }
+}
+
+impl Error for Fault {}
+
+impl From<PlanFault> for Fault {
+    ghost from_gives = { λ e f. (f ≡ OutOfMemory) ↔ (e ≡ plan.Memory) };
+
+    fn from(fault: PlanFault) -> Fault {
+        match fault {
+            PlanFault::Gap => Fault::Gap,
+            PlanFault::Memory => Fault::OutOfMemory,
+        }
+    }
+}
+
+impl From<ReplayFault> for Fault {
+    ghost from_gives = { λ e f. ((f ≡ Full) ↔ (e ≡ replay.Full)) × ((f ≡ OutOfMemory) ↔ (e ≡ replay.Memory)) × (e ≡ replay.Workers → f ≡ Workers) };
+
+    fn from(fault: ReplayFault) -> Fault {
+        match fault {
+            ReplayFault::Full => Fault::Full,
+            ReplayFault::Memory => Fault::OutOfMemory,
+            // the command line takes no number of workers but 1 to 64, so that the first two do not come
+            ReplayFault::NoWorkers | ReplayFault::TooManyWorkers | ReplayFault::Workers => {
+                Fault::Workers
+            }
+        }
+    }
+}
+
+impl From<InputRefused> for Fault {
+    ghost from_gives = { λ e f. (f ≡ TooLarge) ↔ (e.fault ≡ input.TooLong) };
+
+    fn from(refused: InputRefused) -> Fault {
+        match refused.fault {
+            InputFault::TooLong => Fault::TooLarge,
+            // a plan has no segment at or below its checkpoint
+            InputFault::BelowCheckpoint | InputFault::Gap => Fault::Gap,
+        }
+    }
+}
+
+impl From<BlockFault> for Fault {
+    ghost from_gives = { λ e f. (f ≡ OutOfMemory) ↔ ((e ≡ block.Memory) ⊎ (e ≡ block.Index index.Memory)) };
+
+    fn from(fault: BlockFault) -> Fault {
+        match fault {
+            BlockFault::Index(ReadFault::Memory) | BlockFault::Memory => Fault::OutOfMemory,
+            BlockFault::Index(fault) => Fault::BadIndex(fault),
+            BlockFault::BadChunks => Fault::BadChunks,
+            BlockFault::BadTombstones => Fault::BadTombstones,
+            BlockFault::BadMeta => Fault::BadMeta,
+        }
+    }
+}
+
+impl From<AllocError> for Fault {
+    ghost from_gives = { λ _ f. f ≡ OutOfMemory };
+
+    fn from(_error: AllocError) -> Fault {
+        Fault::OutOfMemory
+    }
+}
+
+impl<T: Drop> From<AllocFailed<T>> for Fault {
+    ghost from_gives = { λ _ f. f ≡ OutOfMemory };
+
+    fn from(_error: AllocFailed<T>) -> Fault {
+        Fault::OutOfMemory
+    }
+}
