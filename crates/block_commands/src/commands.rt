@@ -1,25 +1,13 @@
 //! What the command line asks of blocks.
 
 use crate::blocks::block;
-use crate::cutting::{CutRequest, cut_hour};
+use crate::cutting::cut_hour;
 use crate::ranges::ranges;
-use head_replay::Options;
 use prom_commands::{Answer, Progress};
-use prom_store::{Fault, Store};
+use prom_store::{BlockRequest, Fault, Store};
 use std::alloc::Global;
 use std::sync::Wait;
 use std::thread::Threads;
-
-/// What the command line asks of blocks.
-#[derive(Clone, Copy, Debug, PartialEq, Eq)]
-pub enum BlockRequest<'a> {
-    /// To list the hours of the log in a directory that can be cut.
-    Ranges { dir: &'a str, options: Options },
-    /// To cut an hour of a log into a block.
-    Cut(CutRequest<'a>),
-    /// To say what the block in a folder holds.
-    Block { path: &'a str },
-}
 
 fn execute<R: Threads + Wait + Sync, S: Store, P: Progress + Sync>(
     rt: &R,

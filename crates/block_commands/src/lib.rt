@@ -12,8 +12,8 @@ mod ranges;
 mod report;
 mod writing;
 
-pub use commands::{BlockRequest, carry_out_block};
-pub use cutting::CutRequest;
+pub use commands::carry_out_block;
 pub use laws::however_dealt;
 pub use parts::read_parts;
+pub use prom_store::{BlockRequest, CutRequest};
 pub use writing::write_block;

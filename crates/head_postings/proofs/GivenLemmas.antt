@@ -9,8 +9,8 @@ use Rattle.std.proofs.lemmas.List.{take_all}
 use Rattle.hw_bytes.proofs.Lists.{append_none, flat_map-push}
 use Rattle.wal_record.specs.declared.labels.Label.{Label}
 use Rattle.wal_record.specs.Labels.{same_text, same_label, IsLabelSet}
-use Rattle.head_series.proofs.Places.{same_text_exact}
-use Rattle.head_series.proofs.TextLemmas.{take_more}
+use Rattle.wal_record.proofs.SameText.{same_text_exact}
+use Rattle.hw_bytes.proofs.Places.{take_more}
 use Rattle.head_postings.specs.Postings.{Text, Labels, holds, label}
 use Rattle.head_postings.specs.Given.{given}
 

@@ -5,7 +5,8 @@ use Rattle.std.specs.Vec.{vec_capacity, vec_len}
 use Rattle.std.specs.Map.{lookup, keys_of, values_of}
 use Rattle.indexmap.specs.IndexMap.{set_value_at, insert_entry}
 use Rattle.wal_record.specs.Labels.{same_text}
-use Rattle.head_series.proofs.Places.{position-map, same_text_exact, same_text_refl}
+use Rattle.hw_bytes.proofs.Places.{position-map}
+use Rattle.wal_record.proofs.SameText.{same_text_exact, same_text_refl}
 use Rattle.head_postings.specs.Placed.{places, NamedPlaced, Placed}
 use Rattle.head_postings.specs.Postings.{Text, Lists, listed}
 use Rattle.head_postings.proofs.Listed.{seen, listed-last, listed-found, listed-none, listed-written, listed-inserted, none_found, IsPut}

@@ -8,9 +8,9 @@ use Rattle.std.specs.Cmp.Lexicographic.{nat_list_eq_equiv}
 use Rattle.indexmap.specs.IndexMap.{set_value_at, insert_entry}
 use Rattle.wal_record.specs.Labels.{same_text}
 use Rattle.hw_bytes.proofs.Lists.{append_none, map_push}
-use Rattle.head_series.specs.Texts.{place}
-use Rattle.head_series.proofs.Places.{same_text_exact}
-use Rattle.head_series.proofs.TextLemmas.{take_more}
+use Rattle.hw_bytes.specs.Lists.{place}
+use Rattle.wal_record.proofs.SameText.{same_text_exact}
+use Rattle.hw_bytes.proofs.Places.{take_more}
 use Rattle.head_postings.specs.Postings.{Text, listed}
 
 module _ {A : Type 0} where

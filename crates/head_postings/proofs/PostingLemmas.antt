@@ -4,7 +4,7 @@ use Rattle.std.specs.Prelude.{◌||◌, ◌&&◌, ◌⊎◌, nat_eq, if◌then�
 use Rattle.std.specs.List.{list_any}
 use Rattle.std.proofs.lemmas.List.Folds.{list_any-append}
 use Rattle.hw_bytes.proofs.Lists.{append_none, map_push}
-use Rattle.head_series.proofs.Places.{list_any-map}
+use Rattle.hw_bytes.proofs.Places.{list_any-map}
 use Rattle.head_postings.specs.Slots.{AreAbove, AreBelow, IsAscending, IsUnion}
 use Rattle.head_postings.specs.Postings.{Text, Labels, Lists, holds, selected, slots, with_label, AreAlike, AreMerged, IsMergeOf, IsPostingsOf, IsSound}
 use Rattle.head_postings.proofs.Ascending.{among, or_cases, below_among, ascending_push, union_is}

@@ -4,8 +4,8 @@ use Rattle.std.proofs.lemmas.List.{length-replicate, take_all}
 use Rattle.std.specs.Prelude.{◌&&◌, ◌||◌, if◌then◌else◌, slice_get}
 use Rattle.wal_record.specs.declared.labels.Label.{Label}
 use Rattle.wal_record.specs.Labels.{same_text, same_label, IsLabelSet}
-use Rattle.head_series.proofs.Places.{same_text_exact, same_text_refl}
-use Rattle.head_series.proofs.TextLemmas.{take_more}
+use Rattle.wal_record.proofs.SameText.{same_text_exact, same_text_refl}
+use Rattle.hw_bytes.proofs.Places.{take_more}
 use Rattle.head_postings.specs.Postings.{Text, Labels, Lists, holds, label, listed, slots_of}
 use Rattle.head_postings.specs.Placed.{places}
 use Rattle.head_postings.specs.Room.{Counted, HasRoom, IsCountOf, IsReserved, occurrences, room_of}

@@ -6,7 +6,7 @@ use Rattle.std.proofs.lemmas.List.Folds.{list_any-append}
 use Rattle.std.proofs.lemmas.List.{drop_all}
 use Rattle.hw_bytes.proofs.Lists.{append_none}
 use Rattle.wal_record.specs.Labels.{same_text}
-use Rattle.head_series.proofs.Places.{same_text_exact}
+use Rattle.wal_record.proofs.SameText.{same_text_exact}
 use Rattle.head_postings.specs.Postings.{Text, listed}
 use Rattle.head_postings.specs.Slots.{AreAbove, IsAscending, IsUnion}
 use Rattle.head_postings.proofs.Listed.{IsPut}

@@ -5,10 +5,9 @@ ghost use Rattle.head_postings.specs.Postings.{Labels};
 ghost use Rattle.head_postings.specs.Room.{IsCountOf};
 
 use crate::names::Names;
-use head_series::Slot;
 use std::alloc::{AllocError, Global};
 use std::marker::Model;
-use wal_record::LabelSet;
+use wal_record::{LabelSet, Slot};
 
 /// The label sets of the series that a batch makes new, counted by label: so much room each list needs.
 #[derive(Debug)]

@@ -8,11 +8,10 @@ ghost use Rattle.head_postings.specs.Room.{room_of};
 ghost use Rattle.head_postings.specs.Slots.{IsAscending, IsUnion};
 
 use crate::values::Values;
-use head_series::Slot;
 use indexmap::IndexMap;
 use std::alloc::{AllocError, Global};
 use std::marker::Model;
-use wal_record::LabelSet;
+use wal_record::{LabelSet, Slot};
 
 /// For each name the slots of each value.
 #[derive(Debug, Drop)]

@@ -8,10 +8,9 @@ ghost use Rattle.head_postings.specs.Slots.{AreBelow, IsAscending};
 use crate::batch::Batch;
 use crate::names::Names;
 use crate::union::united;
-use head_series::Slot;
 use std::alloc::{AllocError, Global};
 use std::marker::Model;
-use wal_record::LabelSet;
+use wal_record::{LabelSet, Slot};
 
 /// For each label, a name with a value, the ascending list of the slots whose label set has it, and the list of all slots.
 /// Contracts see `Lists`, of which they say what `all` is and what is `selected` at each name and value.

@@ -3,8 +3,8 @@
 ghost use Rattle.std.specs.Prelude.{IfOk};
 ghost use Rattle.head_postings.specs.Slots.{IsAscending, IsUnion};
 
-use head_series::Slot;
 use std::alloc::{AllocError, Global};
+use wal_record::Slot;
 
 // The union of two ascending lists, each of which is walked once.
 pub(crate) fn united(

@@ -6,10 +6,10 @@ ghost use Rattle.head_postings.specs.Postings.{listed};
 ghost use Rattle.head_postings.specs.Slots.{IsAscending, IsUnion};
 
 use crate::union::united;
-use head_series::Slot;
 use indexmap::IndexMap;
 use std::alloc::{AllocError, Global};
 use std::marker::Model;
+use wal_record::Slot;
 
 /// The slots of each value.
 #[derive(Debug, Drop)]

@@ -7,30 +7,10 @@ use Rattle.std.proofs.lemmas.List.{map-append}
 use Rattle.indexmap.specs.IndexSet.{insert_key}
 use Rattle.std.proofs.lemmas.Slice.Eq.{bytes_eq-Decides}
 use Rattle.hw_bytes.specs.Lists.{IsSame}
+pub use Rattle.hw_bytes.proofs.Places.{position-map, list_any-map}
 use Rattle.wal_record.specs.Labels.{same_text}
+pub use Rattle.wal_record.proofs.SameText.{same_text_exact, same_text_refl}
 use Rattle.head_series.specs.Texts.{place, has_text, with_text}
-
-lt_suc : (a b : ℕ) → nat_lt (suc a) (suc b) ≡ nat_lt a b
-lt_suc a b = grind arith
-
-some_suc : (a b : ℕ) → cond (nat_lt (suc a) (suc b)) (Some (suc a)) None ≡ option_map (λ n. n + 1) (cond (nat_lt a b) (Some a) None)
-some_suc a b = ap (λ c. cond c (Some (suc a)) None) (lt_suc a b) ∙ by (nat_lt a b) where
-  by : (c : Bool) → cond c (Some (suc a)) None ≡ option_map (λ n. n + 1) (cond c (Some a) None)
-  by true = ap Some (omega arith)
-  by false = refl
-
--- std's `position` by cases
-pub position-map : {A B : Type 0} (f : A → B) (p : B → Bool) (xs : List A) → position (λ x. p (f x)) xs ≡ place p (map f xs)
-position-map f p [] = refl
-position-map f p (x ∷ xs) = by (p (f x)) (position-map f p xs) where
-  by : (b : Bool) → position (λ x. p (f x)) xs ≡ place p (map f xs)
-      → (let n = cond (not b) (1 + position_or_len (λ x. p (f x)) xs) 0 in cond (nat_lt n (suc (length xs))) (Some n) None) ≡ (if b then Some 0 else option_map (λ n. n + 1) (place p (map f xs)))
-  by true e = let k : nat_lt 0 (suc (length xs)) ≡ true = grind arith in ap (λ c. cond c (Some 0) None) k
-  by false e = let k : 1 + position_or_len (λ x. p (f x)) xs ≡ suc (position_or_len (λ x. p (f x)) xs) = omega arith in ap (λ n. cond (nat_lt n (suc (length xs))) (Some n) None) k ∙ some_suc (position_or_len (λ x. p (f x)) xs) (length xs) ∙ ap (option_map (λ n. n + 1)) e
-
-pub list_any-map : {A B : Type 0} (f : A → B) (p : B → Bool) (xs : List A) → list_any (λ x. p (f x)) xs ≡ list_any p (map f xs)
-list_any-map f p [] = refl
-list_any-map f p (x ∷ xs) = ap (λ b. p (f x) || b) (list_any-map f p xs)
 
 pub place_some : {A : Type 0} (p : A → Bool) (xs : List A) (s : ℕ) → place p xs ≡ Some s → list_any p xs ≡ true
 place_some p [] s h = cc
@@ -55,13 +35,6 @@ place-push p (y ∷ ys) x h e = at (p y) refl h (λ k. place-push p ys x k e) wh
       → (if b then Some 0 else option_map (λ n. n + 1) (place p (ys ++ x ∷ []))) ≡ Some (suc (length ys))
   at true e h deep = cc
   at false e h deep = ap (option_map (λ n. n + 1)) (deep h) ∙ ap Some (omega arith)
-
-pub same_text_exact : (a b : List ℕ) → same_text a b ≡ true → a ≡ b
-same_text_exact a b h = (bytes_eq-Decides a b).0 h
-
-pub same_text_refl : (t : List ℕ) → same_text t t ≡ true
-same_text_refl [] = refl
-same_text_refl (x ∷ xs) = let k : nat_eq x x ≡ true = eq-eqb x x refl in ap (λ b. b && same_text xs xs) k ∙ same_text_refl xs
 
 pub texts_same : IsSame same_text
 texts_same = record { reflexive = same_text_refl; exact = same_text_exact }

@@ -1,8 +1,8 @@
 -- Texts in the order of first sight.
-use Rattle.std.specs.Prelude.{ℕ, ◌+◌, Bool, List, [], ◌∷◌, ◌++◌, if◌then◌else◌, Option, Some, None}
-use Rattle.std.specs.Option.{option_map}
+use Rattle.std.specs.Prelude.{ℕ, Bool, List, [], ◌∷◌, ◌++◌, if◌then◌else◌}
 use Rattle.std.specs.List.{list_any}
 use Rattle.wal_record.specs.declared.labels.Label.{Label}
+pub use Rattle.hw_bytes.specs.Lists.{place}
 pub use Rattle.wal_record.specs.Labels.{Text}
 use Rattle.wal_record.specs.Labels.{same_text}
 
@@ -23,11 +23,6 @@ with_texts ts (u ∷ us) = with_texts (with_text ts u) us
 abbrev pub texts_of : List Label → List Text
 texts_of [] = []
 texts_of (l ∷ ls) = l.name ∷ l.value ∷ texts_of ls
-
--- the place of the first that passes the test
-abbrev pub place : {A : Type 0} → (A → Bool) → List A → Option ℕ
-place p [] = None
-place p (x ∷ xs) = if p x then Some 0 else option_map (λ n. n + 1) (place p xs)
 
 -- texts, how many there may be, and how many more go in without memory
 pub record TextTable : Type 0 where

@@ -17,12 +17,11 @@ mod ready;
 mod reference_slots;
 mod references;
 mod rows;
-mod slot;
 mod table;
 
 pub use interner::{InternFault, Interner};
 pub use laws::{greatest_reference, least_reference, room_for_first, slot_is_place};
 pub use plan::Plan;
 pub use ready::Ready;
-pub use slot::Slot;
 pub use table::{BindFault, Bound, SeriesTable};
+pub use wal_record::Slot;

@@ -17,14 +17,13 @@ use crate::plan::Plan;
 use crate::ready::Ready;
 use crate::references::References;
 use crate::rows::{Row, copied_rows, is_named, last_numbers, last_with, note_last};
-use crate::slot::Slot;
 use indexmap::IndexMap;
 use std::alloc::{AllocError, Global};
 use std::cmp::Ordering;
 use std::error::Error;
 use std::fmt;
 use std::marker::Model;
-use wal_record::{LabelFault, LabelSet};
+use wal_record::{LabelFault, LabelSet, Slot};
 
 /// Why a reference was not bound.
 #[derive(Clone, Copy, Debug, PartialEq, Eq)]

@@ -9,3 +9,4 @@ pub mod Vectors
 pub mod Lists
 pub mod Shortest
 pub mod Greatest
+pub mod Places

@@ -1,5 +1,6 @@
 -- Words on lists that several crates' definitions share.
-use Rattle.std.specs.Prelude.{◌≡◌, Bool, true, List, [], ◌∷◌, ◌++◌, All, Contains, Option, None, Some, if◌then◌else◌}
+use Rattle.std.specs.Prelude.{◌≡◌, ℕ, ◌+◌, Bool, true, List, [], ◌∷◌, ◌++◌, All, Contains, Option, None, Some, if◌then◌else◌}
+use Rattle.std.specs.Option.{option_map}
 use Rattle.std.specs.List.{list_any, fold}
 
 -- for each element, in order, what f says of the elements before it and of it
@@ -42,3 +43,8 @@ IsGreatest at_most xs (Some g) = Contains xs g × All (λ x. at_most x g) xs
 pub record IsSame {A : Type 0} (same : A → A → Bool) : Type 0 where
   pub reflexive : (a : A) → same a a ≡ true
   pub exact : (a b : A) → same a b ≡ true → a ≡ b
+
+-- the place of the first that passes the test
+abbrev pub place : {A : Type 0} → (A → Bool) → List A → Option ℕ
+place p [] = None
+place p (x ∷ xs) = if p x then Some 0 else option_map (λ n. n + 1) (place p xs)

@@ -9,9 +9,10 @@ mod progress;
 mod report;
 mod spelling;
 
-pub use commands::{Answer, Request, carry_out};
+pub use commands::{Answer, carry_out};
 pub use directory::{join, names_in, read_in, read_log, written};
 pub use heads::undamaged_head;
 pub use meter::Meter;
 pub use progress::{Progress, extent_of};
+pub use prom_store::Request;
 pub use spelling::read_pair;

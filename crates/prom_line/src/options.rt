@@ -1,11 +1,9 @@
 //! The command line.
 
-use block_commands::{BlockRequest, CutRequest};
 use clap::error::ErrorKind;
 use clap::{Arg, ArgMatches, Command, Error, value_parser};
 use head_replay::Options;
-use live_commands::AppendRequest;
-use prom_commands::Request;
+use prom_store::{AppendRequest, BlockRequest, CutRequest, Request};
 use std::alloc::{AllocError, Global};
 
 /// What the command line asks for.

@@ -1,14 +1,16 @@
-//! The store that the program works over, and how a run can end.
+//! What the program can be asked for, the store that it works over, and how a run can end.
 #![tactic(auto)]
 
 mod damage;
 mod disk;
 mod fault;
 mod line;
+mod requests;
 mod store;
 
 pub use damage::{DamageLine, kind_of_file};
 pub use disk::{Disk, read_whole};
 pub use fault::{Fault, Status};
 pub use line::LineFault;
+pub use requests::{AppendRequest, BlockRequest, CutRequest, Request};
 pub use store::{Store, StoreFault};

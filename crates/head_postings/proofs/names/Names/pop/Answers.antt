@@ -2,7 +2,7 @@ use Rattle.std.proofs.Common.{◌≡◌, ◌-◌, ◌∙◌, ap, refl, length, t
 use Rattle.std.specs.Prelude.{◌&&◌, if◌then◌else◌}
 use Rattle.indexmap.specs.IndexMap.{set_value_at}
 use Rattle.wal_record.specs.Labels.{same_text}
-use Rattle.head_series.proofs.Places.{same_text_exact}
+use Rattle.wal_record.proofs.SameText.{same_text_exact}
 use Rattle.head_postings.specs.Postings.{listed, slots_of}
 use Rattle.head_postings.proofs.Listed.{seen, changed_under}
 use Rattle.head_postings.proofs.Kept.{bytes, slots_in, put_at, was_at, was_none, kept_both, named_slots}
