@@ -2,7 +2,7 @@
 
 ghost use Rattle.std.specs.Prelude.{◌≡◌, ℕ, ◌==◌, All, filter, min, ◌+◌, ◌*◌, ◌/◌, ◌^◌, ◌++◌, ◌∷◌, [], ◌<◌, ◌≤◌, ◌↔◌, length, map, List, Ok, None, IsOk, IsTrue, IfOk, OnOk, OnErr, IfErr, IsErrAnd, slice_get, Some, true, ◌%◌, ◌≢◌, slice_index_or, vec_capacity};
 ghost use Rattle.head_deal.specs.Jobs.{Job, Queued, is_queued};
-ghost use Rattle.head_deal.specs.Dealing.{AllDone, AreShares, Course, Leads, RefusesDeal, SameEndings, Step, course, end_jobs, end_slots, ending_outcomes, ending_values, front};
+ghost use Rattle.head_deal.specs.Dealing.{AllDone, AreShares, Course, Leads, RefusesDeal, SameEndings, Step, course, end_jobs, end_slots, ending_outcomes, ending_values, front, most_slots};
 ghost use Rattle.head_deal.specs.Endings.{item_at, job_endings, outcomes, slot_endings, told};
 ghost use Rattle.head_deal.specs.Holding.{AreSeats};
 ghost use Rattle.head_deal.specs.Joining.{IsDeal, IsPartOf};
@@ -15,7 +15,7 @@ use crate::{Builder, Stepped};
 use std::alloc::{AllocError, Global};
 use std::marker::Model;
 
-// The most slots that a deal grows to: with 64 workers more their count still fits.
+// The most slots that a deal grows to: with 64 workers more their count still fits in a `usize`.
 const MOST_SLOTS: usize = usize::MAX - 64;
 
 /// Why no deal was made.
@@ -34,6 +34,22 @@ pub enum DealFault {
 pub struct DealRefused<B> {
     pub builders: Vec<B>,
     pub fault: DealFault,
+}
+
+/// Why no slot was added.
+#[derive(Debug, Clone, Copy, PartialEq, Eq)]
+pub enum AddFault {
+    /// The deal has 2^64 - 65 slots. It takes no more.
+    Full,
+    /// There was not enough memory.
+    Memory,
+}
+
+/// A builder that got no slot, handed back.
+#[derive(Drop)]
+pub struct AddRefused<B> {
+    pub builder: B,
+    pub fault: AddFault,
 }
 
 /// Items dealt to builders, each to the slot of its own. Slot s belongs to worker s mod workers, and each worker has the items of
@@ -191,26 +207,33 @@ impl<B: Builder> Deal<B> {
     }
 
     /// A slot more behind the others, with this builder. What was dealt ends as it would without it. The builder is handed back where
-    /// memory ran out, and nothing else is changed.
-    pub fn add(&mut self, builder: B) -> Result<(), B>
+    /// memory ran out or the deal has as many slots as it can have, and nothing else is changed.
+    pub fn add(&mut self, builder: B) -> Result<(), AddRefused<B>>
         ensures added { OnOk result (self.new ≡ record self.old { builders = self.old.builders ++ builder ∷ [] }) }
         ensures slots { OnOk result (end_slots B.after (course B.value self.new) ≡ end_slots B.after (course B.value self.old) ++ (length self.old.builders, B.value builder) ∷ []) }
         ensures items { OnOk result (end_jobs B.after B.outcome (course B.value self.new) ≡ end_jobs B.after B.outcome (course B.value self.old)) }
-        ensures handed_back { IfErr result (λ b. b ≡ builder) }
+        ensures handed_back { IfErr result (λ e. e.builder ≡ builder) }
+        ensures full { IsErrAnd result (λ e. e.fault ≡ AddFault.Full) ↔ (most_slots ≤ length self.old.builders) }
         ensures refused { OnErr result (self.new ≡ self.old) }
     {
         self.add_last(builder)
     }
 
-    fn add_last(&mut self, builder: B) -> Result<(), B>
+    fn add_last(&mut self, builder: B) -> Result<(), AddRefused<B>>
         ensures added { OnOk result (self.new ≡ record self.old { builders = self.old.builders ++ builder ∷ [] }) }
         ensures within { All (λ job. job.slot < length self.old.builders) self.old.jobs }
-        ensures handed_back { IfErr result (λ b. b ≡ builder) }
+        ensures handed_back { IfErr result (λ e. e.builder ≡ builder) }
+        ensures full { IsErrAnd result (λ e. e.fault ≡ AddFault.Full) ↔ (most_slots ≤ length self.old.builders) }
         ensures refused { OnErr result (self.new ≡ self.old) }
     {
         let slot = self.slots;
-        if slot >= MOST_SLOTS || make_room(&mut self.seats, slot).is_err() {
-            return Err(builder);
+        if slot >= MOST_SLOTS {
+            let fault = AddFault::Full;
+            return Err(AddRefused { builder, fault });
+        }
+        let fault = AddFault::Memory;
+        if make_room(&mut self.seats, slot).is_err() {
+            return Err(AddRefused { builder, fault });
         }
         match self.parts[slot % self.workers].add(slot, builder) {
             Ok(()) => {
@@ -218,7 +241,7 @@ impl<B: Builder> Deal<B> {
                 self.slots += 1;
                 Ok(())
             }
-            Err(builder) => Err(builder),
+            Err(builder) => Err(AddRefused { builder, fault }),
         }
     }
 

@@ -1,6 +1,6 @@
 //! Parts joined again.
 
-ghost use Rattle.std.specs.Prelude.{◌≡◌, ℕ, ◌==◌, ◌+◌, ◌*◌, ◌^◌, ◌++◌, ◌<◌, ◌≤◌, [], length, map, drop, slice_set, Some, None, replicate, true, false, not, List, Option, IfOk, IfErr, IsErrAnd, OnOk, vec_len, vec_capacity};
+ghost use Rattle.std.specs.Prelude.{◌≡◌, ℕ, ◌==◌, ◌+◌, ◌*◌, ◌^◌, ◌++◌, ◌<◌, ◌≤◌, [], length, map, drop, slice_set, Some, None, replicate, true, false, not, List, Option, IfOk, IfErr, IsErrAnd, IsOk, OnOk, vec_len, vec_capacity};
 ghost use Rattle.std.specs.List.{list_any, flat_map};
 ghost use Rattle.std.specs.Prelude.{All};
 ghost use Rattle.head_deal.specs.Jobs.{is_queued};
@@ -307,6 +307,8 @@ pub fn join_parts<B: Builder>(
     ensures known { (fault : JoinFault) → join_fault parts.items ≡ Some fault → IsErrAnd result (λ e. e.fault ≡ fault) }
     ensures refused { IfErr result (λ e. RefusesJoin parts.items e.fault) }
     ensures handed_back { IfErr result (λ e. e.parts.items ≡ parts.items) }
+    // The part of a lone worker is joined without memory.
+    ensures lone { length parts.items ≡ 1 → join_fault parts.items ≡ None → IsOk result }
 {
     match join_fault(parts.as_slice()) {
         Some(fault) => Err(JoinRefused { parts, fault }),
@@ -322,6 +324,7 @@ fn join_sound<B: Builder>(
     requires { join_fault parts.items ≡ None }
     ensures endings { IfOk result (λ j. (d : _) → IsDeal d → All (IsPartOf B.value B.after B.outcome d) parts.items → (map B.value j.builders.items ≡ ending_values B.after (course B.value d)) × (j.outcomes.items ≡ ending_outcomes B.after B.outcome (course B.value d))) }
     ensures memory { IfErr result (λ e. (e.parts.items ≡ parts.items) × (e.fault ≡ JoinFault.Memory)) }
+    ensures lone { length parts.items ≡ 1 → IsOk result }
 {
     if parts.len() > 1 {
         return join_many(alloc, parts);

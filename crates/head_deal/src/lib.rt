@@ -21,7 +21,7 @@ mod seats;
 mod spread;
 
 pub use again::{deal_again, outcomes_in_parts, parts_end};
-pub use dealing::{Deal, DealFault, DealRefused, deal_theorem, slots_alone};
+pub use dealing::{AddFault, AddRefused, Deal, DealFault, DealRefused, deal_theorem, slots_alone};
 pub use joining::{JoinFault, JoinRefused, Joined, join_parts};
 pub use parts::{Part, run_part};
 

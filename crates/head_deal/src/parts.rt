@@ -1,7 +1,7 @@
 //! The part of one worker.
 
-ghost use Rattle.std.specs.Prelude.{◌≡◌, ℕ, ◌<◌, ◌≤◌, ◌+◌, ◌*◌, ◌^◌, ◌++◌, ◌∷◌, [], length, All, OnOk, OnErr, IfErr, IfOk, slice_index_or, vec_capacity};
-ghost use Rattle.head_deal.specs.Dealing.{strided, share_course, share_lists, SameEndings, AllDone, StoppedAt, FitsIn, Kept};
+ghost use Rattle.std.specs.Prelude.{◌≡◌, ℕ, ◌<◌, ◌≤◌, ◌+◌, ◌*◌, ◌^◌, ◌++◌, ◌∷◌, [], length, replicate, All, OnOk, OnErr, IfErr, IfOk, slice_index_or, vec_capacity};
+ghost use Rattle.head_deal.specs.Dealing.{strided, share_course, share_lists, SameEndings, AllDone, StoppedAt, FitsIn, Kept, Leads};
 ghost use Rattle.head_deal.specs.Entries.{entries};
 ghost use Rattle.head_deal.specs.Holding.{PartStep};
 ghost use Rattle.head_deal.specs.Jobs.{Queued};
@@ -49,6 +49,8 @@ impl<B: Builder> Model for Part<B> {
 /// and a later call goes on from there.
 pub fn run_part<B: Builder>(part: &mut Part<B>) -> Result<(), AllocError>
     ensures kept { Kept B.value B.after B.outcome part.old part.new }
+    // It takes steps of its worker, and does nothing else.
+    ensures steps { (n : ℕ) × Leads B.after B.outcome (replicate n part.old.worker) (share_course B.value part.old) (share_course B.value part.new) }
     ensures done { OnOk result (AllDone part.new.jobs) }
     ensures stopped { OnErr result ((place : ℕ) × StoppedAt part.old.jobs part.new.jobs place) }
 {
@@ -72,6 +74,7 @@ fn run_dues<B: Builder>(
     requires fit { All (λ due. due.element < length builders.old.items) dues.now.items }
     requires some { length outcomes.old.items ≤ length dues.now.items }
     ensures endings { SameEndings B.after B.outcome (share_lists B.value workers worker builders.old.items (entries worker workers dues.now.items outcomes.old.items)) (share_lists B.value workers worker builders.new.items (entries worker workers dues.now.items outcomes.new.items)) }
+    ensures steps { (n : ℕ) × Leads B.after B.outcome (replicate n worker) (share_lists B.value workers worker builders.old.items (entries worker workers dues.now.items outcomes.old.items)) (share_lists B.value workers worker builders.new.items (entries worker workers dues.now.items outcomes.new.items)) }
     ensures done { OnOk result (AllDone (entries worker workers dues.now.items outcomes.new.items)) }
     ensures stopped { OnErr result ((place : ℕ) × StoppedAt (entries worker workers dues.now.items outcomes.old.items) (entries worker workers dues.now.items outcomes.new.items) place) }
     ensures builders { length builders.new.items ≡ length builders.old.items }

@@ -126,6 +126,17 @@ plan_full t bs b p ss ts h n w fits = at w where
   at (inl x) = let m = simp length-append at (ap length (new_after t bs b p ss ts h n).0) in let k = last.0 in absurd (omega (arith, m, k, x))
   at (inr x) = let m = simp length-append at (ap length (new_after t bs b p ss ts h n).1) in let k = last.1 in absurd (omega (arith, m, k, x))
 
+-- a new one at the limit of series
+pub at_limit : (t : Table) (bs : List Binding) (b : Binding) (p : Planned) → IsPlanOf t bs p → has_series t.series b.labels ≡ false → has_series p.series b.labels ≡ false
+    → t.most ≤ length t.series + length p.series → Fits t.most t.series t.texts (bs ++ b ∷ []) → ⊥
+at_limit t bs b p h absent unplanned many fits =
+    let new : has_series (series_after t.series bs) b.labels ≡ false = ap (λ ss. has_series ss b.labels) (sym h.series) ∙ back_same (same_labels b.labels) t.series p.series absent ∙ unplanned in
+    let grown : series_after t.series (bs ++ b ∷ []) ≡ (t.series ++ p.series) ++ b.labels ∷ [] =
+    series_after-push t.series bs b ∙ ap (λ c. if c then series_after t.series bs else series_after t.series bs ++ b.labels ∷ []) new ∙ ap (λ ss. ss ++ b.labels ∷ []) (sym h.series) in
+    let m = simp length-append at (ap length grown) in
+    let last = (fits_last t.most t.series t.texts bs b fits).0 in
+    absurd (omega (arith, m, last, many))
+
 texts_of-length : (ls : Labels) → length (texts_of ls) ≡ 2 * length ls
 texts_of-length [] = refl
 texts_of-length (l ∷ ls) = let k = texts_of-length ls in omega (arith, k)

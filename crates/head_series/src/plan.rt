@@ -1,7 +1,8 @@
 //! What bindings that are yet to be made will need.
 
-ghost use Rattle.std.specs.Prelude.{◌≡◌, ◌+◌, ◌*◌, [], length, OnOk};
+ghost use Rattle.std.specs.Prelude.{◌≡◌, ◌↔◌, ◌≤◌, ◌+◌, ◌*◌, [], false, length, true, OnOk};
 ghost use Rattle.head_series.specs.Room.{high_one};
+ghost use Rattle.head_series.specs.Table.{has_series};
 
 use crate::interner::Interner;
 use crate::reference_slots::LOW_END;
@@ -57,6 +58,24 @@ impl Plan {
             bindings: 0,
             texts_most: 0,
             high: 0,
+        }
+    }
+
+    // Whether a label set is in neither a table nor this plan for it, and both together have as many series as there may be.
+    pub(crate) fn is_at_limit(&self, table: &SeriesTable, most: u32, labels: &LabelSet) -> bool
+        ensures { (result ≡ true) ↔ ((has_series table.now.series labels.now ≡ false) × (has_series self.now.series labels.now ≡ false) × (most ≤ length table.now.series + length self.now.series)) }
+    {
+        let series = table.len() as u64 + self.series.len() as u64;
+        if series < most as u64 {
+            return false;
+        }
+        match table.find_labels(labels) {
+            Some(_) => return false,
+            None => {}
+        }
+        match self.series.find_labels(labels) {
+            Some(_) => false,
+            None => true,
         }
     }
 

@@ -1,6 +1,6 @@
 //! The slot of each reference, and the least reference of each slot.
 
-ghost use Rattle.std.specs.Prelude.{◌≡◌, ◌<◌, ◌≤◌, ◌+◌, ◌^◌, ℕ, Some, None, true, length, IfOk, IfSome, OnOk};
+ghost use Rattle.std.specs.Prelude.{◌≡◌, ◌<◌, ◌≤◌, ◌+◌, ◌^◌, ℕ, Some, None, true, length, IfOk, IfSome, OnOk, false};
 ghost use Rattle.head_series.specs.ReferenceSlots.{low_end, slot_of};
 ghost use Rattle.head_series.specs.Room.{high_one};
 ghost use Rattle.head_series.specs.Table.{IsWith, IsLeast};
@@ -68,6 +68,7 @@ impl References {
     // Whether a reference has the slot.
     pub(crate) fn has(&self, reference: u64, slot: u32) -> bool
         ensures yes { result ≡ true → slot_of self.now.slots reference ≡ Some slot }
+        ensures no { result ≡ false → slot_of self.now.slots reference ≡ Some slot → ⊥ }
     {
         self.slots.has(reference, slot)
     }

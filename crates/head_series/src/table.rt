@@ -296,6 +296,7 @@ impl SeriesTable {
         ensures texts { self.new.texts ≡ self.old.texts }
         ensures most { self.new.most ≡ self.old.most }
         ensures kept { OnErr result (AreAlike self.old self.new) }
+        ensures again { slot_at self.old reference ≡ Some slot → IsOk result }
     {
         let alloc = *self.rows.allocator();
         if self.references.has(reference, slot.number()) {
@@ -406,6 +407,8 @@ impl SeriesTable {
         // At the limit of series a new one is refused before memory is asked for.
         ensures limit { has_series self.old.series labels.now ≡ false → length self.old.series ≡ self.old.most → result ≡ Err BindFault.Full }
         ensures kept { OnErr result (AreAlike self.old self.new) }
+        // A reference that is bound to what it was bound to asks for no memory.
+        ensures again { (slot : ℕ) → slot_at self.old reference ≡ Some slot → place (same_labels labels.now) self.old.series ≡ Some slot → IsOk result }
         // What the bindings so far and this one say.
         ensures table { (bs : List Binding) → IsTableOf bs self.old → OnOk result (IsTableOf (bs ++ (record { reference = reference; labels = labels.now }) ∷ []) self.new) }
     {
@@ -454,7 +457,12 @@ impl SeriesTable {
         ensures ready { IfOk result (λ ready. ready ≡ labels.now) }
         ensures room { (bs : List Binding) → IsReserved self.old bs plan.old → OnOk result (IsReserved self.new (bs ++ (record { reference = reference; labels = labels.now }) ∷ []) plan.new) }
         ensures full { (bs : List Binding) → IsReserved self.old bs plan.old → result ≡ Err BindFault.Full → Fits self.old.most self.old.series self.old.texts (bs ++ (record { reference = reference; labels = labels.now }) ∷ []) → ⊥ }
+        // At the limit of series a new one is refused before memory is asked for.
+        ensures limit { has_series self.old.series labels.now ≡ false → has_series plan.old.series labels.now ≡ false → self.old.most ≤ length self.old.series + length plan.old.series → result ≡ Err BindFault.Full }
     {
+        if plan.is_at_limit(self, self.most, labels) {
+            return Err(BindFault::Full);
+        }
         let ready = Ready::new(*self.rows.allocator(), labels)?;
         self.note(plan, labels)?;
         plan.count(reference, labels)?;

@@ -446,8 +446,8 @@ fn deal_or_nothing<B: Fresh>(rt: &impl Abort, alloc: Global) -> Result<(), Alloc
         &[Stepped::Done(Outcome::Accepted)],
     );
     // a builder that memory was refused to is handed back, and is added now
-    if let Err(builder) = deal.add(B::fresh(alloc)) {
-        deal.add(builder).map_err(|_| AllocError)?;
+    if let Err(refused) = deal.add(B::fresh(alloc)) {
+        deal.add(refused.builder).map_err(|_| AllocError)?;
     }
     same(rt, "slots", deal.slots(), 4);
     let mut parts = deal.into_parts().map_err(|_| AllocError)?;

@@ -1,5 +1,5 @@
 use Rattle.std.proofs.lemmas.List.{length-append}
-use Rattle.std.proofs.Common.{◌+◌, ◌∷◌, [], ◌<◌, ◌≤◌, ◌≡◌, length, arith, sym, ap, ◌∙◌, vec_len, vec_capacity}
+use Rattle.std.proofs.Common.{◌+◌, ◌∷◌, [], ◌<◌, ◌≤◌, ◌≡◌, length, arith, refl, sym, ap, ◌∙◌, vec_len, vec_capacity}
 use Rattle.std.proofs.lemmas.Result.{err_from_is_err_and}
 use Rattle.head_deal.specs.Entries.{entries}
 use Rattle.head_deal.proofs.Running.{all_done}
@@ -72,3 +72,22 @@ returns-clause-done g c =
     let n = length-entries c.args.worker c.args.workers c.args.dues.now.items c.loop-place.outcomes.items in
     let test = c.loop-place-test.false in
     all_done (entries c.args.worker c.args.workers c.args.dues.now.items c.loop-place.outcomes.items) c.loop-place.place (omega arith) c.loop-place.invariant.0.before
+
+pub returns-in_err-reserve-clause-steps : goal.returns-in_err-reserve-clause-steps
+returns-in_err-reserve-clause-steps g c = rw c.in_err-reserve.ensures.items (0, refl)
+
+pub returns-in-Err-clause-steps : goal.returns-in-Err-clause-steps
+returns-in-Err-clause-steps g c =
+    let b = g.B.Builder in
+    let i = c.loop-place.invariant in
+    let m : c.len-place-end.result ≡ length c.args.dues.now.items = c.len-place-end.ensures ∙ c.args.dues.now.ok.0 in
+    let test = c.loop-place-test.true in
+    let low : c.loop-place.place < length c.args.dues.now.items = omega arith in
+    let fit = c.requires.fit c.loop-place.place c.index-due.result.now low in
+    let fit' : c.index-due.result.now.element < length c.args.builders.now.items = rw (sym c.index-due.ensures) at fit in
+    let within : c.index-due.result.now.element < length c.loop-place.builders.items = rw i.0.builders fit' in
+    let all = run_stopped b.value b.after b.outcome c.args.workers c.args.worker c.args.builders.now.items (entries c.args.worker c.args.workers c.args.dues.now.items c.args.outcomes.now.items) c.loop-place.builders.items c.args.dues.now.items c.loop-place.outcomes.items c.loop-place.place c.index-due.result.now c.index_mut-builder.result.now c.apply.new.self c.requires.workers i.1 low c.index-due.ensures c.index_mut-builder.ensures.value within c.in-Err.ensures.refused i.0 in
+    all.2
+
+pub returns-clause-steps : goal.returns-clause-steps
+returns-clause-steps g c = c.loop-place.invariant.0.steps

@@ -19,3 +19,11 @@ returns-clause-slots c q =
     c.point_ready.ensures.slots q
     ∙ ap (λ o. if c.args.reference == q then Some c.args.slot else o)
     (shown_slot c.reserve.new.self.slots q ∙ c.reserve.ensures.same q ∙ sym (slot_shown c.args.self.now c.self.inside.references.slots (ap (λ t. t.slots) c.self.view_is) q))
+
+pub returns-in_err-node-clause-again : goal.returns-in_err-node-clause-again
+returns-in_err-node-clause-again c = λ e.
+    absurd (c.has.ensures.no c.if-has.false (sym (slot_shown c.args.self.now c.self.inside.references.slots (ap (λ t. t.slots) c.self.view_is) c.args.reference) ∙ e ∙ ap Some (sym c.number.ensures)))
+
+pub returns-in_err-reserve-clause-again : goal.returns-in_err-reserve-clause-again
+returns-in_err-reserve-clause-again c = λ e.
+    absurd (c.has.ensures.no c.if-has.false (sym (slot_shown c.args.self.now c.self.inside.references.slots (ap (λ t. t.slots) c.self.view_is) c.args.reference) ∙ e ∙ ap Some (sym c.number.ensures)))
