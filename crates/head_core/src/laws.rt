@@ -1,18 +1,22 @@
 //! Laws of the definitions.
 
-ghost use Rattle.std.specs.Prelude.{◌≡◌, ◌++◌, ℕ, ℤ, List, None, Option, Some, filter, map, nat_eq, slice_get};
+ghost use Rattle.std.specs.Prelude.{◌≡◌, ◌++◌, ℕ, ℤ, List, None, Option, Some, filter, length, map, nat_eq, slice_get};
 ghost use Rattle.wal_record.specs.declared.record.WalRecord.{WalRecord as LogRecord};
 ghost use Rattle.wal_record.specs.Entries.{Entry, entries_of};
 ghost use Rattle.wal_record.specs.Labels.{same_labels};
 ghost use Rattle.head_column.specs.declared.items.Item.{Item};
-ghost use Rattle.head_column.specs.Histories.{history_after, history_outcome, no_history};
+ghost use Rattle.head_column.specs.Chunks.{chunks_of};
+ghost use Rattle.head_column.specs.Histories.{history_after, history_outcome, latest, no_history};
+ghost use Rattle.head_column.specs.Hours.{is_in_hour};
 ghost use Rattle.head_column.specs.Tallies.{latest_after, latest_outcome};
 ghost use Rattle.head_series.specs.Bindings.{series_of};
-ghost use Rattle.head_series.specs.Table.{Labels};
-ghost use Rattle.head_series.specs.Texts.{place};
+ghost use Rattle.head_series.specs.Table.{IsLeast, Labels, after, labels_at, slot_at};
+ghost use Rattle.head_series.specs.Texts.{Text, place};
+ghost use Rattle.head_postings.specs.Postings.{selected};
 ghost use Rattle.head_core.specs.Owners.{bindings};
 ghost use Rattle.head_core.specs.Counts.{counts_of, items_of, known};
 ghost use Rattle.head_core.specs.Content.{AreAlike, AreHistoriesOf, Content, IsContentOf, IsWithinLimits};
+ghost use Rattle.head_core.specs.Heads.{history_at};
 ghost use Rattle.head_core.specs.Resolved.{resolved, IsResolvable};
 ghost use Rattle.head_core.specs.Applied.{AreCountsOfOutcomes, new_slots, outcomes_after, values_after};
 
@@ -28,6 +32,27 @@ pub fn one_content()
     slot_is_place();
     columns_follow_items();
 }
+
+/// Contents that are alike answer each call of a head alike: what the call answers of a head with the one content is what it answers of a head
+/// with the other. There is a clause for each call that looks at a head, and it speaks of what that call ensures.
+pub fn alike_answers()
+    ensures counts { (c d : Content) → AreAlike c d → d.counts ≡ c.counts }
+    ensures series { (c d : Content) → AreAlike c d → length d.table.series ≡ length c.table.series }
+    ensures find { (c d : Content) → AreAlike c d → (l : Labels) → place (same_labels l) d.table.series ≡ place (same_labels l) c.table.series }
+    ensures labels { (c d : Content) → AreAlike c d → (slot : ℕ) → labels_at d.table slot ≡ labels_at c.table slot }
+    ensures pairs { (c d : Content) → AreAlike c d → (slot : ℕ) → length (labels_at d.table slot) ≡ length (labels_at c.table slot) }
+    ensures pair { (c d : Content) → AreAlike c d → (slot i : ℕ) → slice_get (labels_at d.table slot) i ≡ slice_get (labels_at c.table slot) i }
+    ensures reference { (c d : Content) → AreAlike c d → (slot : ℕ) (a b : Option ℕ) → IsLeast (λ r. slot_at c.table r ≡ Some slot) a → IsLeast (λ r. slot_at d.table r ≡ Some slot) b → b ≡ a }
+    ensures next_reference { (c d : Content) → AreAlike c d → after d.table.greatest ≡ after c.table.greatest }
+    ensures samples { (c d : Content) → AreAlike c d → (slot : ℕ) → (history_at d slot).samples ≡ (history_at c slot).samples }
+    ensures sample_count { (c d : Content) → AreAlike c d → (slot : ℕ) → length (history_at d slot).samples ≡ length (history_at c slot).samples }
+    ensures last_time { (c d : Content) → AreAlike c d → (slot : ℕ) → latest (history_at d slot).samples ≡ latest (history_at c slot).samples }
+    ensures chunks_in { (c d : Content) → AreAlike c d → (slot : ℕ) (hour : ℤ) → chunks_of (filter (λ s. is_in_hour hour s.time) (history_at d slot).samples) ≡ chunks_of (filter (λ s. is_in_hour hour s.time) (history_at c slot).samples) }
+    ensures hidden { (c d : Content) → AreAlike c d → (slot : ℕ) → (history_at d slot).hidden ≡ (history_at c slot).hidden }
+    ensures select { (c d : Content) → AreAlike c d → (name value : Text) → selected d.postings name value ≡ selected c.postings name value }
+    ensures all { (c d : Content) → AreAlike c d → d.postings.all ≡ c.postings.all }
+    ensures max_time { (c d : Content) → AreAlike c d → d.max_time ≡ c.max_time }
+{}
 
 /// The slot that an item was resolved to is its owner's for good, since more entries move no series. So the items that were resolved
 /// to one slot are those that the label set there owns, in order.

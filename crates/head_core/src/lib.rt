@@ -20,7 +20,7 @@ pub use fault::HeadFault;
 pub use head::Head;
 pub use head_column::{Chunk, Column, Hour, Item, Outcome, Run, Sample};
 pub use head_series::Slot;
-pub use laws::{items_make_series, limits_hold_before, one_content, slots_stay};
+pub use laws::{alike_answers, items_make_series, limits_hold_before, one_content, slots_stay};
 pub use postings::postings_of;
 pub use replay::{ReplayFault, Replayed, replay_serial};
 pub use reserved::Reserved;

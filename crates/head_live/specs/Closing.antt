@@ -42,6 +42,12 @@ all_told appenders = flat_map (λ a. a.told) appenders
 abbrev pub shares : List AppenderState → ℕ
 shares appenders = sum_by (λ a. a.share) appenders
 
+-- What contracts see of the live head under the lock: the moment at which the run began, the present one, and how many appenders were made.
+pub record HeldState : Type 0 where
+  pub opening : Moment
+  pub now : Moment
+  pub appenders : ℕ
+
 -- A run ended with this live head: its log leads there from the opening, so many rows were accepted as all shares come to, so much the count of accepted
 -- samples grew, and what was told is what the head holds.
 pub record Closes (opening : Moment) (live : LiveState) (accepted : ℕ) (appenders : List AppenderState) : Type 0 where

@@ -1,6 +1,6 @@
 //! How a run of a shared head ends.
 
-ghost use Rattle.std.specs.Prelude.{◌≡◌, ◌+◌, IfErr, IfOk, Some, length, true};
+ghost use Rattle.std.specs.Prelude.{◌≡◌, ◌≢◌, ◌↔◌, ◌+◌, IfErr, IfOk, Some, length, true};
 ghost use Rattle.head_live.specs.Closing.{Closes, shares};
 
 use crate::agreeing::agrees;
@@ -72,6 +72,7 @@ fn refuse<K: HeadRun, W: Write + Drop>(
 ) -> HeldRefused<K, W>
     ensures held { result.held ≡ held }
     ensures appenders { result.appenders.items ≡ appenders.items }
+    ensures fault { result.fault ≡ fault }
 {
     HeldRefused {
         held,
@@ -90,6 +91,8 @@ pub(crate) fn close_held<K: HeadRun, W: Write + Drop>(
     ensures closes { IfOk result (λ closed. Closes K.opening closed.live closed.accepted appenders.items) }
     ensures held { IfErr result (λ refused. refused.held ≡ held) }
     ensures appenders { IfErr result (λ refused. refused.appenders.items ≡ appenders.items) }
+    ensures all { IfOk result (λ _. length appenders.items ≡ held.appenders) }
+    ensures missing { IfErr result (λ refused. (refused.fault ≡ CloseFault.Missing) ↔ (length appenders.items ≢ held.appenders)) }
 {
     if appenders.len() as u64 != held.made {
         return Err(refuse(held, appenders, CloseFault::Missing));

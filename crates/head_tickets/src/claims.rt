@@ -184,6 +184,8 @@ impl Claims {
     pub fn close(self, pass: Pass) -> u64
         requires { pass.claims ≡ self }
         ensures word { Closes pass result }
+        ensures seen { pass.seen ≤ result }
+        ensures most { result ≤ self.pieces }
         ensures all { pass.seen ≡ self.pieces → result ≡ self.pieces }
     {
         let Claims { pieces: _, table } = self;
