@@ -8,7 +8,7 @@ mod line;
 mod store;
 
 pub use damage::{DamageLine, kind_of_file};
-pub use disk::{Disk, read_whole};
+pub use disk::{Disk, names_of, read_whole};
 pub use fault::{Fault, Status};
 pub use line::LineFault;
 pub use store::{Store, StoreFault};
