@@ -1,6 +1,9 @@
 //! The store of real files.
 
-ghost use Rattle.std.specs.Prelude.{◌≡◌, IfOk, IfSome};
+ghost use Rattle.std.specs.Prelude.{◌≡◌, ◌⊎◌, Ok, Err, IfErr, IfOk, IfSome, IsErr, MatchResult, map, string_bytes};
+ghost use Rattle.std.specs.Iterator.{Drains, IsFinite};
+ghost use Rattle.std.specs.Fs.{dir_entry_name};
+ghost use Rattle.prom_store.specs.Entries.{Gives};
 
 use crate::store::{Store, StoreFault};
 use std::alloc::Global;
@@ -70,15 +73,31 @@ fn length_of(file: &impl OpenFile) -> u64 {
     }
 }
 
-// The name of an entry, behind these.
-fn push_name<R: Files + Drop>(
+// The name of an entry of a directory, where it was read.
+fn name_of<R: Files + Drop>(
     alloc: Global,
-    names: &mut Vec<String>,
     entry: io::Result<DirEntry<R>>,
-) -> Result<(), StoreFault> {
-    let name = String::from_str(alloc, entry?.file_name())?;
-    names.push(name)?;
-    Ok(())
+) -> Result<String, StoreFault>
+    ensures name { MatchResult entry (λ entry. IfOk result (λ name. string_bytes name ≡ dir_entry_name entry)) (λ _. IsErr result) }
+{
+    Ok(String::from_str(alloc, entry?.file_name())?)
+}
+
+/// The names of the entries of a directory, in the order in which they come. There are none where one of them was not read.
+pub fn names_of<I: Iterator<Item = Result<String, StoreFault>> + Drop>(
+    alloc: Global,
+    entries: I,
+) -> Result<Vec<String>, StoreFault>
+    requires can { I.can_next entries }
+    requires finite { IsFinite (I.remaining entries) }
+    ensures names { IfOk result (λ names. Drains I.next_gives entries (map Ok names.items)) }
+    ensures refused { IfErr result (λ fault. (fault ≡ StoreFault.OutOfMemory) ⊎ Gives I.next_gives entries (Err fault)) }
+{
+    let mut names = Vec::new(alloc);
+    for entry in entries {
+        names.push(entry?)?;
+    }
+    Ok(names)
 }
 
 impl<R: Files + AllocGlobal + Clone + Drop> Store for Disk<'_, R> {
@@ -87,11 +106,7 @@ impl<R: Files + AllocGlobal + Clone + Drop> Store for Disk<'_, R> {
     fn read_dir(&mut self, path: &str) -> Result<Vec<String>, StoreFault> {
         let alloc = self.rt.alloc();
         let entries = fs::read_dir(self.rt, path)?;
-        let mut names = Vec::new(alloc);
-        for entry in entries {
-            push_name(alloc, &mut names, entry)?;
-        }
-        Ok(names)
+        names_of(alloc, entries.map(|entry| name_of(alloc, entry)))
     }
 
     fn read(&mut self, path: &str) -> Result<Vec<u8>, StoreFault> {

@@ -4,9 +4,11 @@ ghost use Rattle.std.specs.Prelude.{◌≡◌, ◌↔◌, ◌⊎◌};
 ghost use Rattle.wal_log.specs.declared.plan.PlanFault.TheVariants as plan;
 ghost use Rattle.wal_log.specs.declared.input.InputFault.TheVariants as input;
 ghost use Rattle.block_index.specs.declared.fault.ReadFault.TheVariants as index;
+ghost use Rattle.block_index.specs.declared.fault.ReadFault.{ReadFault as IndexFault};
 ghost use Rattle.block_read.specs.declared.fault.BlockFault.TheVariants as block;
 ghost use Rattle.head_replay.specs.declared.fault.ReplayFault.TheVariants as replay;
-ghost use Rattle.prom_store.specs.declared.fault.Fault.TheVariants.{Full, OutOfMemory, TooLarge, Workers};
+ghost use Rattle.prom_store.specs.declared.fault.Fault.TheVariants.{BadChunks, BadIndex, BadMeta, BadTombstones, BadUlid, Full, Gap, NoPair, OutOfMemory, TooLarge, Workers};
+ghost use Rattle.prom_store.specs.Faults.{TellsDamage, TellsUnread, TellsUnwritten};
 
 use crate::damage::DamageLine;
 use crate::store::StoreFault;
@@ -90,7 +92,10 @@ pub enum Fault {
 
 impl Fault {
     /// Why the file or directory at `path` was not read. `OutOfMemory` too where the path cannot be copied.
-    pub fn cannot_read(alloc: Global, path: &str, fault: StoreFault) -> Fault {
+    pub fn cannot_read(alloc: Global, path: &str, fault: StoreFault) -> Fault
+        ensures told { TellsUnread path.now result }
+        ensures memory { fault ≡ StoreFault.OutOfMemory → result ≡ OutOfMemory }
+    {
         match (fault, String::from_str(alloc, path)) {
             (StoreFault::Refused, Ok(path)) => Fault::CannotRead { path },
             _ => Fault::OutOfMemory,
@@ -98,7 +103,10 @@ impl Fault {
     }
 
     /// Why the file or directory at `path` was not written. `OutOfMemory` too where the path cannot be copied.
-    pub fn cannot_write(alloc: Global, path: &str, fault: StoreFault) -> Fault {
+    pub fn cannot_write(alloc: Global, path: &str, fault: StoreFault) -> Fault
+        ensures told { TellsUnwritten path.now result }
+        ensures memory { fault ≡ StoreFault.OutOfMemory → result ≡ OutOfMemory }
+    {
         match (fault, String::from_str(alloc, path)) {
             (StoreFault::Refused, Ok(path)) => Fault::CannotWrite { path },
             _ => Fault::OutOfMemory,
@@ -134,8 +142,13 @@ impl Fault {
         }
     }
 
-    /// The status that the program ends with.
-    pub fn status(&self) -> Status {
+    /// The status that the program ends with: `Refused` but for the faults that these clauses name.
+    pub fn status(&self) -> Status
+        ensures usage { (result ≡ Status.Usage) ↔ ((self.now ≡ NoPair) ⊎ (self.now ≡ BadUlid)) }
+        ensures damaged { (result ≡ Status.Damaged) ↔ TellsDamage self.now }
+        ensures exhausted { (result ≡ Status.Exhausted) ↔ ((self.now ≡ OutOfMemory) ⊎ (self.now ≡ Workers)) }
+        ensures fails { result ≡ Status.Done → ⊥ }
+    {
         match self {
             Fault::NoPair | Fault::BadUlid => Status::Usage,
             Fault::Damage(_)
@@ -186,7 +199,7 @@ impl fmt::Debug for Fault {
 impl Error for Fault {}
 
 impl From<PlanFault> for Fault {
-    ghost from_gives = { λ e f. (f ≡ OutOfMemory) ↔ (e ≡ plan.Memory) };
+    ghost from_gives = { λ e f. ((f ≡ OutOfMemory) ↔ (e ≡ plan.Memory)) × ((f ≡ Gap) ↔ (e ≡ plan.Gap)) };
 
     fn from(fault: PlanFault) -> Fault {
         match fault {
@@ -212,7 +225,7 @@ impl From<ReplayFault> for Fault {
 }
 
 impl From<InputRefused> for Fault {
-    ghost from_gives = { λ e f. (f ≡ TooLarge) ↔ (e.fault ≡ input.TooLong) };
+    ghost from_gives = { λ e f. ((f ≡ TooLarge) ↔ (e.fault ≡ input.TooLong)) × (e.fault ≡ input.Gap → f ≡ Gap) };
 
     fn from(refused: InputRefused) -> Fault {
         match refused.fault {
@@ -224,7 +237,9 @@ impl From<InputRefused> for Fault {
 }
 
 impl From<BlockFault> for Fault {
-    ghost from_gives = { λ e f. (f ≡ OutOfMemory) ↔ ((e ≡ block.Memory) ⊎ (e ≡ block.Index index.Memory)) };
+    ghost from_gives = { λ e f. ((f ≡ OutOfMemory) ↔ ((e ≡ block.Memory) ⊎ (e ≡ block.Index index.Memory)))
+        × ((f ≡ BadChunks) ↔ (e ≡ block.BadChunks)) × ((f ≡ BadTombstones) ↔ (e ≡ block.BadTombstones)) × ((f ≡ BadMeta) ↔ (e ≡ block.BadMeta))
+        × ((fault : IndexFault) → e ≡ block.Index fault → (f ≡ OutOfMemory) ⊎ (f ≡ BadIndex fault)) };
 
     fn from(fault: BlockFault) -> Fault {
         match fault {

@@ -9,7 +9,7 @@ mod requests;
 mod store;
 
 pub use damage::{DamageLine, kind_of_file};
-pub use disk::{Disk, read_whole};
+pub use disk::{Disk, names_of, read_whole};
 pub use fault::{Fault, Status};
 pub use line::LineFault;
 pub use requests::{AppendRequest, BlockRequest, CutRequest, Request};
