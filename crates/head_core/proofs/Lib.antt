@@ -19,4 +19,5 @@ pub mod AppliedOutcomes
 mod AppliedWorked
 pub mod CountRoom
 pub mod DraftLemmas
+pub mod Idle
 pub mod Numbered

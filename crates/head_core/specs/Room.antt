@@ -6,7 +6,7 @@ use Rattle.wal_record.specs.Entries.{Entry, series, sample, stone, entries_of}
 use Rattle.head_column.specs.declared.items.Item.{Item}
 use Rattle.head_column.specs.Histories.{ColumnValue, no_history}
 use Rattle.head_series.specs.Texts.{place}
-use Rattle.head_series.specs.Table.{Labels, slot_at, with_series}
+use Rattle.head_series.specs.Table.{Labels, Table, slot_at, with_series}
 use Rattle.head_series.specs.Room as table_room
 use Rattle.head_postings.specs.Room as postings_room
 use Rattle.head_core.specs.declared.counts.Counts.{Counts}
@@ -93,3 +93,7 @@ pub record PutUses (h k : HeadValue) (r : ℕ) : Type 0 where
   pub columns : k.room.columns ≡ h.room.columns
   pub length : length k.room.spares ≡ length h.room.spares
   pub spares : (s : ℕ) → spare_at h.room.spares s ≤ spare_at k.room.spares s + count_by (nat_eq s) (to_slot (slot_at h.content.table r) [])
+
+-- The entries bind nothing, and no item among them comes to a series.
+abbrev pub IsIdle : Table → List Entry → Type 0
+IsIdle t es = (bindings es ≡ []) × (targets t.series (slot_at t) es ≡ [])
