@@ -8,3 +8,4 @@ pub mod Applied
 pub mod Heads
 pub mod Room
 pub mod Draft
+pub mod Replays
