@@ -4,12 +4,12 @@ ghost use Rattle.std.specs.Prelude.{◌≡◌, ℤ, Option};
 ghost use Rattle.wal_log.specs.Inputs.{Files};
 ghost use Rattle.wal_log.specs.declared.reading.Damage.{Damage as LogDamage};
 ghost use Rattle.head_core.specs.Content.{AreAlike, Content};
+ghost use Rattle.head_core.specs.Replays.{IsReplayed};
 ghost use Rattle.block_text.specs.Sums.{Text};
 ghost use Rattle.block_read.specs.declared.block.Block.{Block as Parts};
 ghost use Rattle.block_read.specs.Blocks.{IsBlockOf};
 ghost use Rattle.block_cut.specs.Logs.{IsBlockOfLog};
 ghost use Rattle.block_cut.specs.Rows.{rows_of};
-ghost use Rattle.block_commands.specs.Replays.{IsReplayed};
 
 use block_cut::one_block;
 use head_core::one_content;
