@@ -7,7 +7,11 @@ use prom_store::Fault;
 
 /// What is said of an hour that was not cut.
 pub fn of_cut(fault: CutFault) -> Fault
-    ensures { (result ≡ Fault.OutOfMemory) ↔ (fault ≡ CutFault.Memory) }
+    ensures edge { (result ≡ Fault.Edge) ↔ (fault ≡ CutFault.Edge) }
+    ensures not_full { (result ≡ Fault.NotFull) ↔ (fault ≡ CutFault.NotFull) }
+    ensures nothing { (result ≡ Fault.NoSamples) ↔ (fault ≡ CutFault.Nothing) }
+    ensures too_large { (result ≡ Fault.TooLarge) ↔ (fault ≡ CutFault.TooLarge) }
+    ensures memory { (result ≡ Fault.OutOfMemory) ↔ (fault ≡ CutFault.Memory) }
 {
     match fault {
         CutFault::Edge => Fault::Edge,
