@@ -47,6 +47,8 @@ mod heads;
 #[cfg(test)]
 mod hours;
 #[cfg(test)]
+mod limits;
+#[cfg(test)]
 mod lines;
 #[cfg(test)]
 mod live_views;

@@ -1,0 +1,219 @@
+//! Lists that are longer than any room of a fixed size.
+
+use crate::logs::{NOTHING, by};
+use crate::same;
+use head_column::Chunk;
+use head_core::{Counts, Head, HeadFault, Hour, Resolver, Slot};
+use head_live::{Prepared, RawRow};
+use head_replay::{NoGate, Tallied, replay, tally};
+use std::alloc::{AllocError, Global};
+use std::process::Abort;
+use std::test::Fail;
+use wal_log::{Input, LogWriter, Segment};
+use wal_record::{
+    Items, LabelSet, SampleEntry, SeriesEntry, WalRecord, decode, encode_samples, encode_series,
+};
+
+// So many series, one label each: the references count up from 0.
+fn series(alloc: Global, count: u32) -> Result<Vec<SeriesEntry>, AllocError> {
+    let mut entries = Vec::new(alloc);
+    for number in 0..count {
+        let mut labels = LabelSet::new(alloc);
+        if labels.push(b"n", &number.to_be_bytes()).is_err() {
+            return Err(AllocError);
+        }
+        let reference = u64::from(number);
+        entries.push(SeriesEntry { reference, labels })?;
+    }
+    Ok(entries)
+}
+
+// So many samples of a reference, a second apart.
+fn seconds(
+    alloc: Global,
+    reference: u64,
+    first: u32,
+    count: u32,
+) -> Result<Vec<SampleEntry>, AllocError> {
+    let mut entries = Vec::new(alloc);
+    for number in 0..count {
+        let second = i64::from(first) + i64::from(number);
+        entries.push(SampleEntry {
+            reference,
+            time: second * 1000,
+            value: 1,
+        })?;
+    }
+    Ok(entries)
+}
+
+// A log of 5,000 series in one record, and of 4,097 and of 70,000 samples of the first one, in a record each.
+fn long_log(alloc: Global) -> Result<Input, AllocError> {
+    let mut writer = LogWriter::new(alloc, Vec::new(alloc), 4_096);
+    let first = encode_series(alloc, &series(alloc, 5_000)?)?;
+    let second = encode_samples(alloc, &seconds(alloc, 0, 0, 4_097)?)?;
+    let third = encode_samples(alloc, &seconds(alloc, 0, 4_097, 70_000)?)?;
+    if writer.log(&first, Some(second.as_slice())).is_err() || writer.log(&third, None).is_err() {
+        return Err(AllocError);
+    }
+    let bytes = Items::from_vec(writer.into_inner());
+    let mut segments = Vec::new(alloc);
+    segments.push(Segment { number: 0, bytes })?;
+    match Input::new(None, segments) {
+        Ok(input) => Ok(input),
+        Err(_) => Err(AllocError),
+    }
+}
+
+const LONG: Tallied = Tallied {
+    counts: Counts {
+        series_records: 1,
+        sample_records: 2,
+        series_entries: 5_000,
+        accepted: 74_097,
+        ..NOTHING
+    },
+    series: 5_000,
+    damage: None,
+};
+
+#[test]
+fn long_records_are_replayed(rt: HostRuntime) -> Result<(), Fail> {
+    let alloc = rt.alloc();
+    let input = long_log(alloc)?;
+    for workers in [1, 4] {
+        let tallied = tally(&rt, alloc, &input, &by(workers), &NoGate)?;
+        same(&rt, workers, tallied, LONG);
+        let replayed = replay(&rt, alloc, &input, &by(workers), &NoGate)?;
+        same(&rt, workers, replayed.head.counts(), LONG.counts);
+        same(&rt, workers, replayed.head.series(), 5_000);
+    }
+    Ok(())
+}
+
+fn check_resolved(rt: &impl Abort, alloc: Global, resolver: &mut Resolver) -> Result<(), Fail> {
+    let bound = WalRecord::Series(Items::from_vec(series(alloc, 1)?));
+    resolver.resolve(&bound)?;
+    for count in [4_097, 70_000] {
+        let bytes = encode_samples(alloc, &seconds(alloc, 0, 0, count)?)?;
+        let record = decode(alloc, &bytes)?;
+        let items = resolver.resolve_in(&record, Vec::new(alloc))?;
+        same(rt, count, items.len(), count as usize);
+    }
+    Ok(())
+}
+
+#[test]
+fn long_records_are_decoded_and_resolved(rt: HostRuntime) -> Result<(), Fail> {
+    let mut resolver = Resolver::new(rt.alloc());
+    let outcome = check_resolved(&rt, rt.alloc(), &mut resolver);
+    drop(resolver);
+    outcome
+}
+
+// 200 samples of one series, a record that is skipped, and 300 samples that name no series.
+fn mixed(alloc: Global) -> Result<Vec<WalRecord>, AllocError> {
+    let mut records = Vec::new(alloc);
+    records.push(WalRecord::Samples(Items::from_vec(seconds(alloc, 0, 0, 200)?)))?;
+    records.push(WalRecord::Other(Some(9)))?;
+    records.push(WalRecord::Samples(Items::from_vec(seconds(alloc, 7, 0, 300)?)))?;
+    Ok(records)
+}
+
+fn check_reserved(rt: &impl Abort, alloc: Global, head: &mut Head) -> Result<(), HeadFault> {
+    let bound = WalRecord::Series(Items::from_vec(series(alloc, 1)?));
+    head.apply(&bound)?;
+    let records = mixed(alloc)?;
+    let reserved = head.reserve(&records)?;
+    head.apply_reserved(reserved, &records);
+    let wanted = Counts {
+        series_records: 1,
+        sample_records: 2,
+        skipped_records: 1,
+        series_entries: 1,
+        accepted: 200,
+        unknown: 300,
+        ..NOTHING
+    };
+    same(rt, "counts", head.counts(), wanted);
+    Ok(())
+}
+
+#[test]
+fn room_for_five_hundred_items(rt: HostRuntime) -> Result<(), HeadFault> {
+    let mut head = Head::new(rt.alloc());
+    let outcome = check_reserved(&rt, rt.alloc(), &mut head);
+    drop(head);
+    outcome
+}
+
+fn chunk_counts(alloc: Global, chunks: &[Chunk]) -> Result<Vec<usize>, AllocError> {
+    let mut counts = Vec::new(alloc);
+    for chunk in chunks {
+        counts.push(chunk.count)?;
+    }
+    Ok(counts)
+}
+
+// How many samples the chunks of the first hour of the first series have.
+fn counts(alloc: Global, head: &Head) -> Result<Vec<usize>, HeadFault> {
+    if head.is_failed() || head.series() == 0 {
+        return Err(HeadFault::Failed);
+    }
+    let chunks = head.chunks_in(Slot::new(0), Hour::of(0))?;
+    Ok(chunk_counts(alloc, &chunks)?)
+}
+
+fn check_chunks(rt: &impl Abort, alloc: Global, head: &mut Head) -> Result<(), HeadFault> {
+    let bound = WalRecord::Series(Items::from_vec(series(alloc, 1)?));
+    head.apply(&bound)?;
+    let first = WalRecord::Samples(Items::from_vec(seconds(alloc, 0, 0, 241)?));
+    head.apply(&first)?;
+    same(
+        rt,
+        "241",
+        counts(alloc, head)?.as_slice(),
+        [120, 120, 1].as_slice(),
+    );
+    let second = WalRecord::Samples(Items::from_vec(seconds(alloc, 0, 241, 759)?));
+    head.apply(&second)?;
+    let wanted = [120, 120, 120, 120, 120, 120, 120, 120, 40];
+    same(
+        rt,
+        "1000",
+        counts(alloc, head)?.as_slice(),
+        wanted.as_slice(),
+    );
+    Ok(())
+}
+
+#[test]
+fn an_hour_of_a_thousand_samples(rt: HostRuntime) -> Result<(), HeadFault> {
+    let mut head = Head::new(rt.alloc());
+    let outcome = check_chunks(&rt, rt.alloc(), &mut head);
+    drop(head);
+    outcome
+}
+
+// So many rows, each of a series of its own.
+fn rows(alloc: Global, count: u32) -> Result<Vec<RawRow>, AllocError> {
+    let mut rows = Vec::new(alloc);
+    for number in 0..count {
+        let mut pairs = Vec::new(alloc);
+        let name = Vec::from_slice(alloc, b"n")?;
+        let value = Vec::from_slice(alloc, &number.to_be_bytes())?;
+        pairs.push((name, value))?;
+        let (time, value) = (0, 0);
+        rows.push(RawRow { pairs, time, value })?;
+    }
+    Ok(rows)
+}
+
+#[test]
+fn rows_of_many_series(rt: HostRuntime) -> Result<(), Fail> {
+    for count in [300, 70_000] {
+        let prepared = Prepared::new(rt.alloc(), &rows(rt.alloc(), count)?)?;
+        same(&rt, count, prepared.len(), count as usize);
+    }
+    Ok(())
+}
