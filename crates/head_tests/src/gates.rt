@@ -3,8 +3,9 @@
 use crate::damaged::TWO_PAGES_CHANGED;
 use crate::log_lines::{Line, Log, NO_FILES, input_of, seconds_of};
 use crate::logs::{WORKERS, by};
+use crate::same;
 use crate::views::views;
-use crate::worked::TWO_PAGES;
+use crate::worked::{HIDDEN_RUNS, TWO_PAGES};
 use head_core::replay_serial;
 use head_replay::{Gate, Options, replay, tally};
 use std::alloc::{AllocError, Global};
@@ -89,23 +90,27 @@ impl<C: Clock> Gate for Meeting<C> {
 
 #[test]
 fn two_workers_meet(rt: HostRuntime) -> Result<(), Fail> {
-    let input = input_of(rt.alloc(), TWO_FILES)?;
-    let gate = Meeting::new(&rt);
-    let replayed = replay(&rt, rt.alloc(), &input, &by(2), &gate)?;
-    assert_eq!(rt; replayed.head.counts().accepted, 4);
-    assert_eq!(rt;
-        (gate.at_pass.met(), gate.at_part.met()),
-        (2, 2),
-        "in a replay"
-    );
-    let gate = Meeting::new(&rt);
-    let tallied = tally(&rt, rt.alloc(), &input, &by(2), &gate)?;
-    assert_eq!(rt; tallied.counts.accepted, 4);
-    assert_eq!(rt;
-        (gate.at_pass.met(), gate.at_part.met()),
-        (2, 2),
-        "in a tally"
-    );
+    for (log, accepted) in [(TWO_FILES, 4), (HIDDEN_RUNS.log, 3)] {
+        let input = input_of(rt.alloc(), log)?;
+        let gate = Meeting::new(&rt);
+        let replayed = replay(&rt, rt.alloc(), &input, &by(2), &gate)?;
+        let met = (gate.at_pass.met(), gate.at_part.met());
+        same(
+            &rt,
+            "a replay",
+            (replayed.head.counts().accepted, met),
+            (accepted, (2, 2)),
+        );
+        let gate = Meeting::new(&rt);
+        let tallied = tally(&rt, rt.alloc(), &input, &by(2), &gate)?;
+        let met = (gate.at_pass.met(), gate.at_part.met());
+        same(
+            &rt,
+            "a tally",
+            (tallied.counts.accepted, met),
+            (accepted, (2, 2)),
+        );
+    }
     Ok(())
 }
 

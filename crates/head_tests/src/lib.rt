@@ -41,6 +41,8 @@ mod deals;
 #[cfg(test)]
 mod device;
 #[cfg(test)]
+mod full_heads;
+#[cfg(test)]
 mod gates;
 #[cfg(test)]
 mod heads;

@@ -1,5 +1,6 @@
 //! Numbers of pieces that workers draw.
 
+use crate::same;
 use head_replay::Claims;
 use std::test::Fail;
 
@@ -21,5 +22,14 @@ fn three_tickets(rt: HostRuntime) -> Result<(), Fail> {
     assert_eq!(rt; again, [None, None, None]);
     let both = claims.join(one, other);
     assert_eq!(rt; claims.close(both), 3);
+    Ok(())
+}
+
+#[test]
+fn two_of_five(rt: HostRuntime) -> Result<(), Fail> {
+    let (claims, mut pass) = Claims::new(rt.alloc(), 5)?;
+    let drawn = [claims.claim(&mut pass), claims.claim(&mut pass)];
+    same(&rt, "drawn", drawn, [Some(0), Some(1)]);
+    same(&rt, "closed", claims.close(pass), 2);
     Ok(())
 }

@@ -187,7 +187,7 @@ pub(crate) const TWO_PAGES: Case = Case {
     ..EMPTY_DIRECTORY
 };
 
-const HIDDEN_RUNS: Case = Case {
+pub(crate) const HIDDEN_RUNS: Case = Case {
     name: "two series with hidden runs",
     log: Log {
         segments: &[&[
