@@ -1,101 +1,18 @@
 //! Commands over a store of which one call fails. What they print and leave where none fails is in examples/cases.
 
-use crate::checks::{ULID, assert_names, same};
+use crate::checks::{assert_names, same};
 use crate::fragments::*;
-use crate::shelf::Shelf;
-use block_commands::{BlockRequest, CutRequest, carry_out_block};
-use head_replay::{NoGate, Options};
-use live_commands::{AppendRequest, carry_out_append};
-use prom_commands::{Answer, Request, carry_out};
+use crate::runs::{
+    APPEND, CUT, Case, Left, OPTIONS, OUT_OF_MEMORY, carried_out, complaint, replayed_by, shelf_of,
+};
+use block_commands::BlockRequest;
+use head_replay::NoGate;
+use prom_commands::Request;
 use prom_line::Asked;
 use prom_store::StoreFault;
-use std::alloc::{AllocError, Global};
 use std::process::Abort;
 use std::sync::Wait;
 use std::thread::Threads;
-
-// How logs are replayed. What is found does not depend on it.
-const OPTIONS: [Options; 4] = [
-    Options {
-        workers: 1,
-        round_pages: 256,
-    },
-    Options {
-        workers: 2,
-        round_pages: 1,
-    },
-    Options {
-        workers: 7,
-        round_pages: 2,
-    },
-    Options {
-        workers: 64,
-        round_pages: 65_536,
-    },
-];
-
-// Stands where one of these takes its place.
-const ANY: Options = Options {
-    workers: 4,
-    round_pages: 256,
-};
-
-// What a run leaves: its status, what it prints, and what it says.
-type Left = (u8, &'static str, &'static str);
-
-const OUT_OF_MEMORY: Left = (4, "", "out of memory");
-
-// What is asked of a store, of which one call then fails.
-#[derive(Clone, Copy)]
-struct Case {
-    // What stands there: directories, whose paths end in `/`, and files with their bytes.
-    standing: &'static [(&'static str, &'static [u8])],
-    asked: Asked<'static>,
-    // Of which directory the names are looked at afterwards.
-    dir: &'static str,
-}
-
-fn shelf_of(alloc: Global, case: &Case) -> Result<Shelf, StoreFault> {
-    let mut shelf = Shelf::new(alloc)?;
-    for (path, bytes) in case.standing {
-        match path.strip_suffix('/') {
-            Some(dir) => shelf.put_dir(dir)?,
-            None => shelf.put(path, bytes)?,
-        }
-    }
-    Ok(shelf)
-}
-
-fn replayed_by(asked: Asked<'_>, options: Options) -> Asked<'_> {
-    match asked {
-        Asked::OfBlocks(BlockRequest::Cut(request)) => {
-            Asked::OfBlocks(BlockRequest::Cut(CutRequest { options, ..request }))
-        }
-        Asked::Append(request) => Asked::Append(AppendRequest { options, ..request }),
-        asked => asked,
-    }
-}
-
-fn carried_out<R: Threads + Wait + Sync + AllocGlobal>(
-    rt: &R,
-    shelf: &mut Shelf,
-    asked: Asked<'_>,
-) -> Answer {
-    let alloc = rt.alloc();
-    match asked {
-        Asked::OfLog(request) => carry_out(rt, alloc, shelf, &NoGate, request),
-        Asked::OfBlocks(request) => carry_out_block(rt, alloc, shelf, &NoGate, request),
-        Asked::Append(request) => carry_out_append(rt, alloc, shelf, &NoGate, request),
-    }
-}
-
-// What is said of an answer on standard error.
-fn complaint(alloc: Global, answer: &Answer) -> Result<String, AllocError> {
-    match &answer.fault {
-        Some(fault) => fault.to_string(alloc),
-        None => Ok(String::new(alloc)),
-    }
-}
 
 // Carries out what is asked for where a call of the store fails: what it is to leave, and the names that are then in the directory. Gives
 // how many calls there were.
@@ -108,7 +25,7 @@ fn assert_run<R: Abort + Threads + Wait + Sync + AllocGlobal>(
 ) -> Result<u64, StoreFault> {
     let mut shelf = shelf_of(rt.alloc(), case)?;
     shelf.fail(call, fault)?;
-    let answer = carried_out(rt, &mut shelf, asked);
+    let answer = carried_out(rt, &mut shelf, &NoGate, asked);
     let said = complaint(rt.alloc(), &answer)?;
     let found = (answer.status as u8, answer.printed.as_str(), said.as_str());
     same(rt, call, found, left);
@@ -213,23 +130,6 @@ fn each_read_of_a_block_fails(rt: HostRuntime) -> Result<(), StoreFault> {
     assert_each(&rt, &BLOCK, &calls, (bad, names))
 }
 
-const CUT: Case = Case {
-    standing: &[
-        ("log/", b""),
-        ("log/00000000", THREE_SERIES),
-        ("log/00000001", SAMPLES_OF_THREE_SERIES),
-        ("out/", b""),
-    ],
-    asked: Asked::OfBlocks(BlockRequest::Cut(CutRequest {
-        dir: "log",
-        hour: 0,
-        ulid: ULID,
-        out: "out",
-        options: ANY,
-    })),
-    dir: "out",
-};
-
 const NOT_BEGUN: &str = "cannot write out/01ARZ3NDEKTSV4RRFFQ69G5FAV.tmp";
 
 const NO_CHUNKS: &str = "cannot write out/01ARZ3NDEKTSV4RRFFQ69G5FAV.tmp/chunks";
@@ -246,8 +146,10 @@ const NO_BLOCK: &str = "cannot write out/01ARZ3NDEKTSV4RRFFQ69G5FAV";
 
 const BESIDE: &str = " 01ARZ3NDEKTSV4RRFFQ69G5FAV.tmp";
 
-// The log is read; the directory is listed, two are made, each file is made, written and synced, then the two directories are synced, and
-// the last one is renamed. The block's folder is whole or not there.
+const THERE: &str = " 01ARZ3NDEKTSV4RRFFQ69G5FAV";
+
+// The log is read; the directory is listed, two are made, each file is made, written and synced, then the two directories are synced, the
+// last one is renamed, and the directory that it is in is synced. The block's folder is whole or not there.
 #[test]
 fn each_call_of_cut_fails(rt: HostRuntime) -> Result<(), StoreFault> {
     let calls = [
@@ -272,24 +174,11 @@ fn each_call_of_cut_fails(rt: HostRuntime) -> Result<(), StoreFault> {
         (NO_CHUNKS, BESIDE),
         (NOT_BEGUN, BESIDE),
         (NO_BLOCK, BESIDE),
+        (NO_BLOCK, THERE),
     ];
     let done = (0, "samples 3\nseries 2\nchunks 2\n", "");
-    assert_each(&rt, &CUT, &calls, (done, " 01ARZ3NDEKTSV4RRFFQ69G5FAV"))
+    assert_each(&rt, &CUT, &calls, (done, THERE))
 }
-
-const APPEND: Case = Case {
-    standing: &[
-        ("log/", b""),
-        ("log/00000000", SERIES_1_JOB_API),
-        ("rows", b"1030 8 job=api\n"),
-    ],
-    asked: Asked::Append(AppendRequest {
-        dir: "log",
-        rows: "rows",
-        options: ANY,
-    }),
-    dir: "log",
-};
 
 const APPENDED: Left = (0, "accepted\nsegment 00000001\n", "");
 

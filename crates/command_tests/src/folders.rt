@@ -80,7 +80,7 @@ fn write_failing(alloc: Global, failure: (u64, StoreFault)) -> Result<(Shelf, St
 fn written_and_read(rt: HostRuntime) -> Result<(), StoreFault> {
     let (mut shelf, said) = write_failing(rt.alloc(), (0, StoreFault::Refused))?;
     same(&rt, "said", said.as_str(), "");
-    same(&rt, "calls", shelf.calls(), Ok(21));
+    same(&rt, "calls", shelf.calls(), Ok(22));
     assert_names(&rt, &mut shelf, "out", " 01ARZ3NDEKTSV4RRFFQ69G5FAV")?;
     let folder = format!(in rt.alloc(); "out/{ULID}")?;
     assert_names(
@@ -97,12 +97,14 @@ fn written_and_read(rt: HostRuntime) -> Result<(), StoreFault> {
     Ok(())
 }
 
-// Twelve chunk files, whose names are listed in another order than that of their numbers where they are not filled up with zeros.
+// Twelve chunk files, whose names are listed in another order than that of their numbers where they are not filled up with zeros. A write
+// takes four bytes at most.
 #[test]
 fn many_chunk_files(rt: HostRuntime) -> Result<(), StoreFault> {
     let alloc = rt.alloc();
     let mut shelf = Shelf::new(alloc)?;
     shelf.put_dir("out")?;
+    shelf.take_at_most(4)?;
     let block = parts(alloc, 12)?;
     let said = write(alloc, &mut shelf, &block)?;
     same(&rt, "said", said.as_str(), "");
@@ -115,7 +117,7 @@ fn many_chunk_files(rt: HostRuntime) -> Result<(), StoreFault> {
 }
 
 // What is said where a call fails, below `out/`.
-const CALLS: [(u64, &str); 21] = [
+const CALLS: [(u64, &str); 22] = [
     (1, "01ARZ3NDEKTSV4RRFFQ69G5FAV.tmp"),
     (2, "01ARZ3NDEKTSV4RRFFQ69G5FAV.tmp"),
     (3, "01ARZ3NDEKTSV4RRFFQ69G5FAV.tmp/chunks"),
@@ -137,9 +139,10 @@ const CALLS: [(u64, &str); 21] = [
     (19, "01ARZ3NDEKTSV4RRFFQ69G5FAV.tmp/chunks"),
     (20, "01ARZ3NDEKTSV4RRFFQ69G5FAV.tmp"),
     (21, "01ARZ3NDEKTSV4RRFFQ69G5FAV"),
+    (22, "01ARZ3NDEKTSV4RRFFQ69G5FAV"),
 ];
 
-// Writes where a call fails: nothing is done after it, and the block's folder is not there.
+// Writes where a call fails: nothing is done after it, and the block's folder is not there, but where it is the last call that fails.
 fn assert_write_fails<R: Abort + AllocGlobal>(
     rt: &R,
     call: u64,
@@ -149,10 +152,10 @@ fn assert_write_fails<R: Abort + AllocGlobal>(
     let (mut shelf, said) = write_failing(rt.alloc(), (call, fault))?;
     same(rt, call, said.as_str(), wanted);
     same(rt, call, shelf.calls(), Ok(call));
-    let standing = if call <= 2 {
-        ""
-    } else {
-        " 01ARZ3NDEKTSV4RRFFQ69G5FAV.tmp"
+    let standing = match call {
+        1 | 2 => "",
+        22 => " 01ARZ3NDEKTSV4RRFFQ69G5FAV",
+        _ => " 01ARZ3NDEKTSV4RRFFQ69G5FAV.tmp",
     };
     assert_names(rt, &mut shelf, "out", standing)
 }

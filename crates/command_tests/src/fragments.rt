@@ -22,6 +22,12 @@ pub const SAMPLES_1_AT_1000_1015: &[u8] = b"\x01\0\x25\x88\x49\xd6\x7e\
     \x00\x00\0\0\0\0\0\0\0\x05\
     \x00\x1e\0\0\0\0\0\0\0\x06";
 
+// v(1,1030,8)
+pub const SAMPLE_1_AT_1030: &[u8] = b"\x01\0\x1b\xd1\xec\x14\x4a\
+    \x02\
+    \0\0\0\0\0\0\0\x01\0\0\0\0\0\0\x04\x06\
+    \x00\x00\0\0\0\0\0\0\0\x08";
+
 pub const RECORD_OF_NO_BYTES: &[u8] = b"\x01\0\0\0\0\0\0";
 
 // No fragment: its type is no part's.

@@ -5,6 +5,8 @@
 #[cfg(test)]
 mod checks;
 #[cfg(test)]
+mod crashes;
+#[cfg(test)]
 mod failing;
 #[cfg(test)]
 mod folders;
@@ -15,6 +17,10 @@ mod meters;
 #[cfg(test)]
 mod options;
 #[cfg(test)]
+mod runs;
+#[cfg(test)]
 mod shelf;
 #[cfg(test)]
 mod stores;
+#[cfg(test)]
+mod tree;

@@ -1,11 +1,15 @@
 //! The line on a terminal that says how far a replay is.
 
-use crate::checks::same;
-use crate::fragments::{SAMPLES_1_AT_1000_1015, SERIES_1_JOB_API};
+use crate::checks::{ULID, same};
+use crate::fragments::*;
+use crate::runs::{CUT, carried_out, shelf_of};
 use crate::shelf::Shelf;
+use block_commands::{BlockRequest, CutRequest};
 use head_replay::{Gate, NoGate, Options};
+use live_commands::AppendRequest;
 use prom_commands::{Meter, Progress, Request, carry_out};
 use prom_figures::Extent;
+use prom_line::Asked;
 use prom_store::StoreFault;
 use std::alloc::Global;
 use std::cell::{Cell, RefCell};
@@ -201,5 +205,91 @@ fn goes_on_where_nothing_can_be_written(rt: HostRuntime) -> Result<(), StoreFaul
     );
     same(&rt, "a replay", found, want);
     same(&rt, "a replay", want.0, 0);
+    Ok(())
+}
+
+// What a replay tells: how often it began and ended, and how many workers came by at most.
+#[derive(Drop)]
+struct Told {
+    begun: AtomicU64,
+    ended: AtomicU64,
+    workers: AtomicU64,
+}
+
+impl Gate for Told {
+    fn pass(&self, worker: usize, _turn: u64) {
+        self.workers
+            .fetch_max((worker as u64).saturating_add(1), Ordering::SeqCst);
+    }
+
+    fn part(&self, _worker: usize, _turn: u64) {}
+}
+
+impl Progress for Told {
+    fn begin(&self, _extent: &Extent) {
+        self.begun.fetch_add(1, Ordering::SeqCst);
+    }
+
+    fn end(&self) {
+        self.ended.fetch_add(1, Ordering::SeqCst);
+    }
+}
+
+const BY_THREE: Options = Options {
+    workers: 3,
+    round_pages: 1,
+};
+
+// Each command that replays a log.
+const REPLAYS: [Asked<'static>; 5] = [
+    Asked::OfLog(Request::Replay {
+        dir: "log",
+        options: BY_THREE,
+    }),
+    Asked::OfLog(Request::Series {
+        dir: "log",
+        pair: None,
+        options: BY_THREE,
+    }),
+    Asked::OfBlocks(BlockRequest::Ranges {
+        dir: "log",
+        options: BY_THREE,
+    }),
+    Asked::OfBlocks(BlockRequest::Cut(CutRequest {
+        dir: "log",
+        hour: 0,
+        ulid: ULID,
+        out: "out",
+        options: BY_THREE,
+    })),
+    Asked::Append(AppendRequest {
+        dir: "log",
+        rows: "rows",
+        options: BY_THREE,
+    }),
+];
+
+// Each begins one replay and ends it, by as many workers as it was asked for, also where the log is damaged.
+#[test]
+fn each_command_is_heard(rt: HostRuntime) -> Result<(), StoreFault> {
+    for asked in REPLAYS {
+        for second in [SAMPLES_OF_THREE_SERIES, OF_BAD_TYPE] {
+            let mut shelf = shelf_of(rt.alloc(), &CUT)?;
+            shelf.put("rows", b"1030 8 job=api\n")?;
+            shelf.put("log/00000002", second)?;
+            let told = Told {
+                begun: AtomicU64::new(0),
+                ended: AtomicU64::new(0),
+                workers: AtomicU64::new(0),
+            };
+            carried_out(&rt, &mut shelf, &told, asked);
+            let found = (
+                told.begun.load(Ordering::SeqCst),
+                told.ended.load(Ordering::SeqCst),
+                told.workers.load(Ordering::SeqCst),
+            );
+            same(&rt, asked, found, (1, 1, 3));
+        }
+    }
     Ok(())
 }

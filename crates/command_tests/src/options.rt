@@ -1,4 +1,4 @@
-//! How the words of a command line say that a log is to be replayed, and which faults no run can be brought to. What is said of wrong words,
+//! How the words of a command line say that a log is to be replayed, and what is said of each fault. What is said of wrong words,
 //! and what help prints, is in examples/cases.
 
 use crate::checks::same;
@@ -101,19 +101,36 @@ fn options_of_each_command(rt: HostRuntime) -> Result<(), AllocError> {
     Ok(())
 }
 
-fn assert_fault<R: Abort + AllocGlobal>(
-    rt: &R,
-    fault: Fault,
-    wanted: (u8, &str),
-) -> Result<(), AllocError> {
-    let text = fault.to_string(rt.alloc())?;
-    same(rt, wanted.1, (fault.status() as u8, text.as_str()), wanted);
-    Ok(())
-}
+// Each fault that stands for itself, with its status and its text. That rows are longer than a segment of 134,217,728 bytes is shown of the
+// log's writer, in small. No run here is refused a thread, or comes to a head that is full.
+const FAULTS: [(Fault, u8, &str); 15] = [
+    (Fault::NoPair, 2, "pair must be NAME=VALUE"),
+    (Fault::BadUlid, 2, "ulid must be 26 Crockford characters"),
+    (Fault::BadChunks, 1, "bad chunks"),
+    (Fault::BadTombstones, 1, "bad tombstones"),
+    (Fault::BadMeta, 1, "bad meta"),
+    (Fault::Edge, 3, "hour at the edge of time"),
+    (Fault::NotFull, 3, "hour not full"),
+    (Fault::NoSamples, 3, "no samples in hour"),
+    (Fault::Gap, 3, "gap in segment numbers"),
+    (Fault::TooLarge, 3, "too large"),
+    (Fault::Full, 3, "too many series"),
+    (Fault::RefsSpent, 3, "references spent"),
+    (Fault::SegmentFull, 3, "rows do not fit one segment"),
+    (Fault::OutOfMemory, 4, "out of memory"),
+    (Fault::Workers, 4, "a thread could not start"),
+];
 
-// That rows are longer than a segment of 134,217,728 bytes is shown of the log's writer, in small. No run here is refused a thread.
 #[test]
-fn faults_of_no_run(rt: HostRuntime) -> Result<(), AllocError> {
-    assert_fault(&rt, Fault::SegmentFull, (3, "rows do not fit one segment"))?;
-    assert_fault(&rt, Fault::Workers, (4, "a thread could not start"))
+fn texts_of_faults(rt: HostRuntime) -> Result<(), AllocError> {
+    for (fault, status, text) in FAULTS {
+        let found = fault.to_string(rt.alloc())?;
+        same(
+            &rt,
+            text,
+            (fault.status() as u8, found.as_str()),
+            (status, text),
+        );
+    }
+    Ok(())
 }

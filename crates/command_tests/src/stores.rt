@@ -2,7 +2,7 @@
 
 use crate::checks::{names, same};
 use crate::shelf::Shelf;
-use prom_store::{Disk, Store, StoreFault, read_whole};
+use prom_store::{Disk, Store, StoreFault, names_of, read_whole};
 use std::alloc::Global;
 use std::io::{ErrorKind, Read, Write};
 use std::process::Abort;
@@ -150,14 +150,14 @@ fn failing_write(rt: HostRuntime) -> Result<(), StoreFault> {
 
 // Gives its bytes one at a time, but for one read, which fails.
 #[derive(Drop)]
-struct Faulty {
-    rest: &'static [u8],
+struct Faulty<'a> {
+    rest: &'a [u8],
     reads: u64,
     fails_at: u64,
     kind: ErrorKind,
 }
 
-impl Read for Faulty {
+impl Read for Faulty<'_> {
     fn read(&mut self, buf: &mut [u8]) -> io::Result<usize> {
         self.reads = self.reads.saturating_add(1);
         if self.reads == self.fails_at {
@@ -225,4 +225,45 @@ fn long_read(rt: HostRuntime) -> Result<(), StoreFault> {
 fn length_past_memory(rt: HostRuntime) {
     let read = read_whole(rt.alloc(), &mut b"abcd".as_slice(), u64::MAX);
     same(&rt, "length", read.err(), Some(StoreFault::OutOfMemory));
+}
+
+// A reader that gives one byte a call is read to its end, and is refused where its third call fails.
+#[test]
+fn many_reads(rt: HostRuntime) -> Result<(), StoreFault> {
+    let bytes: Vec<u8> = (0..100_000u32)
+        .map(|i| (i % 251) as u8)
+        .collect(rt.alloc())?;
+    for (fails_at, wanted) in [(0, Ok(100_000)), (3, Err(StoreFault::Refused))] {
+        let mut reader = Faulty {
+            rest: bytes.as_slice(),
+            reads: 0,
+            fails_at,
+            kind: ErrorKind::Other,
+        };
+        let found = read_whole(rt.alloc(), &mut reader, 0);
+        same(&rt, fails_at, found.map(|read| read.len()), wanted);
+    }
+    Ok(())
+}
+
+// Entries of a directory, of which one may not be readable.
+#[test]
+fn names_of_entries(rt: HostRuntime) -> Result<(), StoreFault> {
+    let alloc = rt.alloc();
+    for unread in [0, 1, 2, 3] {
+        let entries = (0..3).map(|entry| {
+            if entry == unread {
+                return Err(StoreFault::Refused);
+            }
+            Ok(format!(in alloc; "{entry}")?)
+        });
+        let found = names_of(alloc, entries);
+        let wanted = if unread == 3 {
+            Ok(3)
+        } else {
+            Err(StoreFault::Refused)
+        };
+        same(&rt, unread, found.map(|names| names.len()), wanted);
+    }
+    Ok(())
 }

@@ -1,0 +1,240 @@
+//! What stands after a crash at each call of `append` and of `cut`, and the order of their calls.
+
+use crate::checks::{ULID, names, same};
+use crate::fragments::*;
+use crate::runs::{APPEND, CUT, Case, carried_out, complaint, shelf_of};
+use crate::shelf::Shelf;
+use crate::tree::Kept;
+use block_commands::BlockRequest;
+use head_replay::{NoGate, Options};
+use prom_commands::Request;
+use prom_line::Asked;
+use prom_store::{Status, Store, StoreFault};
+use std::alloc::{AllocError, Global};
+use std::process::Abort;
+use std::sync::Wait;
+use std::thread::Threads;
+
+// How much a crash keeps of names, and of bytes, that were not synced.
+const WAYS: [(Kept, Kept); 9] = [
+    (Kept::Nothing, Kept::Nothing),
+    (Kept::Nothing, Kept::FirstHalf),
+    (Kept::Nothing, Kept::All),
+    (Kept::FirstHalf, Kept::Nothing),
+    (Kept::FirstHalf, Kept::FirstHalf),
+    (Kept::FirstHalf, Kept::All),
+    (Kept::All, Kept::Nothing),
+    (Kept::All, Kept::FirstHalf),
+    (Kept::All, Kept::All),
+];
+
+// A crash: the first call that is not made, and what is kept.
+type Crash = (u64, (Kept, Kept));
+
+// What stands where a run crashed, and whether it had ended well before.
+fn crashed<R: Threads + Wait + Sync + AllocGlobal>(
+    rt: &R,
+    case: &Case,
+    (call, (names, bytes)): Crash,
+) -> Result<(Shelf, bool), StoreFault> {
+    let mut shelf = shelf_of(rt.alloc(), case)?;
+    shelf.stop(call)?;
+    let answer = carried_out(rt, &mut shelf, &NoGate, case.asked);
+    shelf.crash(names, bytes)?;
+    Ok((shelf, answer.status == Status::Done))
+}
+
+// The bytes of a file, none where it is not there.
+fn bytes_of(alloc: Global, shelf: &mut Shelf, path: &str) -> Vec<u8> {
+    shelf.read(path).unwrap_or(Vec::new(alloc))
+}
+
+// What `replay` prints of a log of one series that has so many records of one sample.
+fn counts(alloc: Global, samples: u64) -> Result<String, AllocError> {
+    format!(in alloc;
+        "series_records 1\nsample_records {samples}\nstone_records 0\nskipped_records 0\n\
+        series_entries 1\nseries 1\naccepted {samples}\nstale 0\nunknown 0\nhiding 0\nempty_stones 0\nunknown_stones 0\n\
+        damage none\n"
+    )
+}
+
+const REPLAY: Asked<'static> = Asked::OfLog(Request::Replay {
+    dir: "log",
+    options: Options {
+        workers: 4,
+        round_pages: 256,
+    },
+});
+
+// The segment that was appended is whole, or nothing of it is in the log. It is whole where the run had ended well.
+fn assert_log<R: Abort + Threads + Wait + Sync + AllocGlobal>(
+    rt: &R,
+    crash: Crash,
+) -> Result<(), StoreFault> {
+    let alloc = rt.alloc();
+    let (mut shelf, is_done) = crashed(rt, &APPEND, crash)?;
+    let segment = bytes_of(alloc, &mut shelf, "log/00000001");
+    let is_whole = segment.as_slice() == SAMPLE_1_AT_1030;
+    same(
+        rt,
+        crash,
+        is_whole || (segment.is_empty() && !is_done),
+        true,
+    );
+    same(
+        rt,
+        crash,
+        bytes_of(alloc, &mut shelf, "log/00000000").as_slice(),
+        SERIES_1_JOB_API,
+    );
+    same(
+        rt,
+        crash,
+        bytes_of(alloc, &mut shelf, "rows").as_slice(),
+        b"1030 8 job=api\n".as_slice(),
+    );
+    let wanted = counts(alloc, u64::from(is_whole))?;
+    let found = carried_out(rt, &mut shelf, &NoGate, REPLAY);
+    same(rt, crash, found.printed.as_str(), wanted.as_str());
+    Ok(())
+}
+
+// There are ten calls.
+#[test]
+fn crash_at_each_call_of_append(rt: HostRuntime) -> Result<(), StoreFault> {
+    for call in 1..12 {
+        for kept in WAYS {
+            assert_log(&rt, (call, kept))?;
+        }
+    }
+    Ok(())
+}
+
+const READ: Asked<'static> = Asked::OfBlocks(BlockRequest::Block {
+    path: "out/01ARZ3NDEKTSV4RRFFQ69G5FAV",
+});
+
+const READ_BACK: &str =
+    "ulid 01ARZ3NDEKTSV4RRFFQ69G5FAV\nrange 0 3600000\nsamples 3\nseries 2\nchunks 2\nhidden 0\n";
+
+// The folder of the block is whole, or it is not there. It is there where the run had ended well.
+fn assert_block<R: Abort + Threads + Wait + Sync + AllocGlobal>(
+    rt: &R,
+    crash: Crash,
+) -> Result<(), StoreFault> {
+    let alloc = rt.alloc();
+    let (mut shelf, is_done) = crashed(rt, &CUT, crash)?;
+    let is_there = names(alloc, &mut shelf, "out")?
+        .split(' ')
+        .any(|name| name == ULID);
+    same(rt, crash, is_there || !is_done, true);
+    if is_there {
+        let found = carried_out(rt, &mut shelf, &NoGate, READ);
+        same(rt, crash, found.printed.as_str(), READ_BACK);
+    }
+    Ok(())
+}
+
+// There are 25 calls.
+#[test]
+fn crash_at_each_call_of_cut(rt: HostRuntime) -> Result<(), StoreFault> {
+    for call in 1..27 {
+        for kept in WAYS {
+            assert_block(&rt, (call, kept))?;
+        }
+    }
+    Ok(())
+}
+
+const CALLS_OF_APPEND: &str = "read_dir log
+read log/00000000
+read rows
+create_new log/00000001
+remove_file log/00000001.tmp
+create_new log/00000001.tmp
+write log/00000001.tmp 34
+sync_file log/00000001.tmp
+rename log/00000001.tmp log/00000001
+sync_dir log
+";
+
+// The lengths are those of the block in examples/block.
+const CALLS_OF_CUT: &str = "read_dir log
+read log/00000000
+read log/00000001
+read_dir out
+create_dir out/01ARZ3NDEKTSV4RRFFQ69G5FAV.tmp
+create_dir out/01ARZ3NDEKTSV4RRFFQ69G5FAV.tmp/chunks
+create_new out/01ARZ3NDEKTSV4RRFFQ69G5FAV.tmp/index
+write out/01ARZ3NDEKTSV4RRFFQ69G5FAV.tmp/index 242
+sync_file out/01ARZ3NDEKTSV4RRFFQ69G5FAV.tmp/index
+create_new out/01ARZ3NDEKTSV4RRFFQ69G5FAV.tmp/chunks/000001
+write out/01ARZ3NDEKTSV4RRFFQ69G5FAV.tmp/chunks/000001 54
+sync_file out/01ARZ3NDEKTSV4RRFFQ69G5FAV.tmp/chunks/000001
+create_new out/01ARZ3NDEKTSV4RRFFQ69G5FAV.tmp/tombstones
+write out/01ARZ3NDEKTSV4RRFFQ69G5FAV.tmp/tombstones 9
+sync_file out/01ARZ3NDEKTSV4RRFFQ69G5FAV.tmp/tombstones
+create_new out/01ARZ3NDEKTSV4RRFFQ69G5FAV.tmp/meta.json
+write out/01ARZ3NDEKTSV4RRFFQ69G5FAV.tmp/meta.json 249
+sync_file out/01ARZ3NDEKTSV4RRFFQ69G5FAV.tmp/meta.json
+sync_dir out/01ARZ3NDEKTSV4RRFFQ69G5FAV.tmp/chunks
+sync_dir out/01ARZ3NDEKTSV4RRFFQ69G5FAV.tmp
+rename out/01ARZ3NDEKTSV4RRFFQ69G5FAV.tmp out/01ARZ3NDEKTSV4RRFFQ69G5FAV
+sync_dir out
+";
+
+#[test]
+fn calls_in_order(rt: HostRuntime) -> Result<(), StoreFault> {
+    for (case, wanted) in [(APPEND, CALLS_OF_APPEND), (CUT, CALLS_OF_CUT)] {
+        let mut shelf = shelf_of(rt.alloc(), &case)?;
+        carried_out(&rt, &mut shelf, &NoGate, case.asked);
+        same(&rt, case.dir, shelf.notes()?.as_str(), wanted);
+    }
+    Ok(())
+}
+
+// A write takes so many bytes at most, and what stands is the same.
+#[test]
+fn short_writes(rt: HostRuntime) -> Result<(), StoreFault> {
+    let alloc = rt.alloc();
+    for most in [1, 7, 33] {
+        let mut shelf = shelf_of(alloc, &APPEND)?;
+        shelf.take_at_most(most)?;
+        carried_out(&rt, &mut shelf, &NoGate, APPEND.asked);
+        same(
+            &rt,
+            most,
+            bytes_of(alloc, &mut shelf, "log/00000001").as_slice(),
+            SAMPLE_1_AT_1030,
+        );
+        let mut shelf = shelf_of(alloc, &CUT)?;
+        shelf.take_at_most(most)?;
+        carried_out(&rt, &mut shelf, &NoGate, CUT.asked);
+        let found = carried_out(&rt, &mut shelf, &NoGate, READ);
+        same(&rt, most, found.printed.as_str(), READ_BACK);
+    }
+    Ok(())
+}
+
+// Another run claims the segment once the log is listed: it keeps it.
+#[test]
+fn segment_of_another_run(rt: HostRuntime) -> Result<(), StoreFault> {
+    let alloc = rt.alloc();
+    for call in 2..5 {
+        let mut shelf = shelf_of(alloc, &APPEND)?;
+        shelf.arrive(call, "log/00000001", b"of another run")?;
+        let answer = carried_out(&rt, &mut shelf, &NoGate, APPEND.asked);
+        let said = complaint(alloc, &answer)?;
+        same(&rt, call, said.as_str(), "cannot write log/00000001");
+        same(&rt, call, shelf.calls(), Ok(4));
+        same(
+            &rt,
+            call,
+            names(alloc, &mut shelf, "log")?.as_str(),
+            " 00000000 00000001",
+        );
+        let found = bytes_of(alloc, &mut shelf, "log/00000001");
+        same(&rt, call, found.as_slice(), b"of another run".as_slice());
+    }
+    Ok(())
+}

@@ -1,0 +1,134 @@
+//! Runs of commands over a store in memory.
+
+use crate::checks::ULID;
+use crate::fragments::*;
+use crate::shelf::Shelf;
+use block_commands::{BlockRequest, CutRequest, carry_out_block};
+use head_replay::Options;
+use live_commands::{AppendRequest, carry_out_append};
+use prom_commands::{Answer, Progress, carry_out};
+use prom_line::Asked;
+use prom_store::StoreFault;
+use std::alloc::{AllocError, Global};
+use std::sync::Wait;
+use std::thread::Threads;
+
+/// How logs are replayed. What is found does not depend on it.
+pub const OPTIONS: [Options; 4] = [
+    Options {
+        workers: 1,
+        round_pages: 256,
+    },
+    Options {
+        workers: 2,
+        round_pages: 1,
+    },
+    Options {
+        workers: 7,
+        round_pages: 2,
+    },
+    Options {
+        workers: 64,
+        round_pages: 65_536,
+    },
+];
+
+/// Stands where one of these takes its place.
+pub const ANY: Options = Options {
+    workers: 4,
+    round_pages: 256,
+};
+
+/// What a run leaves: its status, what it prints, and what it says.
+pub type Left = (u8, &'static str, &'static str);
+
+pub const OUT_OF_MEMORY: Left = (4, "", "out of memory");
+
+/// What is asked of a store, of which one call then fails.
+#[derive(Clone, Copy)]
+pub struct Case {
+    /// What stands there: directories, whose paths end in `/`, and files with their bytes.
+    pub standing: &'static [(&'static str, &'static [u8])],
+    pub asked: Asked<'static>,
+    /// Of which directory the names are looked at afterwards.
+    pub dir: &'static str,
+}
+
+/// A store with what a case says.
+pub fn shelf_of(alloc: Global, case: &Case) -> Result<Shelf, StoreFault> {
+    let mut shelf = Shelf::new(alloc)?;
+    for (path, bytes) in case.standing {
+        match path.strip_suffix('/') {
+            Some(dir) => shelf.put_dir(dir)?,
+            None => shelf.put(path, bytes)?,
+        }
+    }
+    Ok(shelf)
+}
+
+/// The same, where a log is replayed in this way.
+pub fn replayed_by(asked: Asked<'_>, options: Options) -> Asked<'_> {
+    match asked {
+        Asked::OfBlocks(BlockRequest::Cut(request)) => {
+            Asked::OfBlocks(BlockRequest::Cut(CutRequest { options, ..request }))
+        }
+        Asked::Append(request) => Asked::Append(AppendRequest { options, ..request }),
+        asked => asked,
+    }
+}
+
+/// Carries out what is asked for.
+pub fn carried_out<R: Threads + Wait + Sync + AllocGlobal, P: Progress + Sync>(
+    rt: &R,
+    shelf: &mut Shelf,
+    progress: &P,
+    asked: Asked<'_>,
+) -> Answer {
+    let alloc = rt.alloc();
+    match asked {
+        Asked::OfLog(request) => carry_out(rt, alloc, shelf, progress, request),
+        Asked::OfBlocks(request) => carry_out_block(rt, alloc, shelf, progress, request),
+        Asked::Append(request) => carry_out_append(rt, alloc, shelf, progress, request),
+    }
+}
+
+/// What is said of an answer on standard error.
+pub fn complaint(alloc: Global, answer: &Answer) -> Result<String, AllocError> {
+    match &answer.fault {
+        Some(fault) => fault.to_string(alloc),
+        None => Ok(String::new(alloc)),
+    }
+}
+
+/// An hour of three series is cut.
+pub const CUT: Case = Case {
+    standing: &[
+        ("log/", b""),
+        ("log/00000000", THREE_SERIES),
+        ("log/00000001", SAMPLES_OF_THREE_SERIES),
+        ("out/", b""),
+    ],
+    asked: Asked::OfBlocks(BlockRequest::Cut(CutRequest {
+        dir: "log",
+        hour: 0,
+        ulid: ULID,
+        out: "out",
+        options: ANY,
+    })),
+    dir: "out",
+};
+
+/// A row is appended.
+pub const APPEND: Case = Case {
+    standing: &[
+        ("log/", b""),
+        ("log/00000000", SERIES_1_JOB_API),
+        ("rows", b"1030 8 job=api\n"),
+    ],
+    asked: Asked::Append(AppendRequest {
+        dir: "log",
+        rows: "rows",
+        options: ANY,
+    }),
+    dir: "log",
+};
