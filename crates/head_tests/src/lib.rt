@@ -67,6 +67,8 @@ mod postings;
 #[cfg(test)]
 mod prepares;
 #[cfg(test)]
+mod raw_logs;
+#[cfg(test)]
 mod references;
 #[cfg(test)]
 mod refused;
@@ -80,6 +82,8 @@ mod rows;
 mod series;
 #[cfg(test)]
 mod shared;
+#[cfg(test)]
+mod shared_series;
 #[cfg(test)]
 mod starts;
 #[cfg(test)]

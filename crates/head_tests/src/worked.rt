@@ -5,7 +5,7 @@ use crate::logs::{Case, EMPTY_DIRECTORY, NOTHING, check, check_each};
 use head_core::Counts;
 use std::test::Fail;
 
-const ONE_SERIES: Case = Case {
+pub(crate) const ONE_SERIES: Case = Case {
     name: "one series",
     log: Log {
         segments: &[&[
