@@ -83,8 +83,6 @@ mod series;
 #[cfg(test)]
 mod shared;
 #[cfg(test)]
-mod shared_series;
-#[cfg(test)]
 mod starts;
 #[cfg(test)]
 mod tickets;
