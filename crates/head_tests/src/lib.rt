@@ -83,6 +83,8 @@ mod series;
 #[cfg(test)]
 mod shared;
 #[cfg(test)]
+mod shared_series;
+#[cfg(test)]
 mod starts;
 #[cfg(test)]
 mod tickets;
