@@ -1,4 +1,4 @@
-//! What a block holds.
+//! The command `block`.
 
 use crate::parts::read_parts;
 use crate::report::block_text;
@@ -7,13 +7,13 @@ use prom_commands::Answer;
 use prom_store::{Fault, Status, Store};
 use std::alloc::Global;
 
-// Says what the block of these parts holds.
+// Prints what the block of these parts holds.
 fn told(alloc: Global, parts: &Block) -> Result<Answer, Fault> {
     let rows = read_block(alloc, parts)?;
     Ok(Answer::done(block_text(alloc, &rows)?, Status::Done))
 }
 
-/// Says what the block in a folder holds.
+/// Prints what the block in a folder holds.
 pub fn block<S: Store>(alloc: Global, store: &mut S, path: &str) -> Result<Answer, Fault> {
     let parts = read_parts(alloc, store, path)?;
     told(alloc, &parts)

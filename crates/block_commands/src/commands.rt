@@ -1,4 +1,4 @@
-//! What the command line asks of blocks.
+//! The commands about blocks.
 
 use crate::blocks::block;
 use crate::cutting::cut_hour;
@@ -23,7 +23,7 @@ fn execute<R: Threads + Wait + Sync, S: Store, P: Progress + Sync>(
     }
 }
 
-/// Carries out what was asked for. A block is made in as many threads as `rt` has processors.
+/// Carries out a request about blocks. A block is made with one thread for each processor of `rt`.
 pub fn carry_out_block<R: Threads + Wait + Sync, S: Store, P: Progress + Sync>(
     rt: &R,
     alloc: Global,

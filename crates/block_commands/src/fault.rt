@@ -1,11 +1,11 @@
-//! How a cut can fail.
+//! Faults of `cut`.
 
 ghost use Rattle.std.specs.Prelude.{◌≡◌, ◌↔◌};
 
 use block_cut::CutFault;
 use prom_store::Fault;
 
-/// What is said of an hour that was not cut.
+/// Converts the fault of a cut to the program's fault.
 pub fn of_cut(fault: CutFault) -> Fault
     ensures edge { (result ≡ Fault.Edge) ↔ (fault ≡ CutFault.Edge) }
     ensures not_full { (result ≡ Fault.NotFull) ↔ (fault ≡ CutFault.NotFull) }

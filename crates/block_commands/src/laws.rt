@@ -18,9 +18,9 @@ use wal_log::one_reading;
 /// For every checkpoint, list of segments and number of workers, where no memory and no thread is refused, the head that `replay` gives and
 /// every byte of each block cut from it are those defined by the log's records read one after another, however the work was dealt.
 ///
-/// What `replay` ensures of its head is `IsReplayed`, which speaks of the log's files alone. A log has just one such head, as far as any view
-/// of a head goes, and one damage (`head`): those of `replay_serial`. And what `cut` ensures of a block of such a head makes it the block of
-/// the log (`block`), of which there is just one for an hour and a name (`one`).
+/// `replay` ensures `IsReplayed` of its head, which speaks of the log's files alone. A log has one such head, up to what the views of a head
+/// show, and one damage (`head`): those of `replay_serial`. What `cut` ensures of a block of such a head makes it the block of the log
+/// (`block`), and there is one such block for an hour and a name (`one`).
 pub fn however_dealt()
     ensures head { (log : Files) (damage other : Option LogDamage) (a b : Content) → IsReplayed log damage a → IsReplayed log other b → (damage ≡ other) × AreAlike a b }
     ensures block { (log : Files) (hour : ℤ) (ulid : Text) (damage : Option LogDamage) (content : Content) (block : Parts) →
@@ -28,7 +28,7 @@ pub fn however_dealt()
         IsBlockOfLog log hour ulid block }
     ensures one { (log : Files) (hour : ℤ) (ulid : Text) (a b : Parts) → IsBlockOfLog log hour ulid a → IsBlockOfLog log hour ulid b → a ≡ b }
 {
-    // the laws that it rests on, for the proof
+    // laws that the proof uses
     one_reading();
     one_content();
     one_block();

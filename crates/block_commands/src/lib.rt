@@ -1,5 +1,5 @@
-//! What each command about blocks does, over any store: which hours of a log can be cut, an hour cut into a block in a folder, and
-//! what a folder's block holds.
+//! The commands about blocks, over any store: list the hours of a log that can be cut, cut an hour into a block in a folder, and print
+//! what such a block holds.
 #![tactic(auto)]
 
 mod blocks;

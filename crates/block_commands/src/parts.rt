@@ -1,4 +1,4 @@
-//! The parts of a block in a folder.
+//! Reading the parts of a block from a folder.
 
 use block_read::Block;
 use hw_bytes::Items;
@@ -6,12 +6,12 @@ use prom_commands::{join, names_in, read_in};
 use prom_store::{Fault, Store};
 use std::alloc::{AllocError, Global};
 
-/// The name of a chunk file, the files being counted from 1.
+/// Returns the name of a chunk file. Files are counted from 1.
 pub fn chunk_name(alloc: Global, number: u64) -> Result<String, AllocError> {
     format!(in alloc; "{number:06}")
 }
 
-// Whether this is the name of one of the first so many chunk files.
+// Returns whether this is the name of one of the first `most` chunk files.
 fn is_chunk_name(alloc: Global, name: &str, most: u64) -> Result<bool, AllocError> {
     match name.parse::<u64>() {
         Ok(number) if 1 <= number && number <= most => {
@@ -21,8 +21,8 @@ fn is_chunk_name(alloc: Global, name: &str, most: u64) -> Result<bool, AllocErro
     }
 }
 
-// How many chunk files a directory with these names has, no two of which are equal: `None` unless they are 000001, 000002 and so
-// on, in any order.
+// Returns how many chunk files a directory has, by its names, which are distinct. Returns `None` unless they are 000001, 000002 and so on,
+// in any order.
 fn chunk_count(alloc: Global, names: &[String]) -> Result<Option<u64>, AllocError> {
     let count = names.len() as u64;
     for name in names {
@@ -33,8 +33,8 @@ fn chunk_count(alloc: Global, names: &[String]) -> Result<Option<u64>, AllocErro
     Ok(Some(count))
 }
 
-// The chunk files in a directory. Where one of its names is no chunk file's there are none: a block has a chunk, so that these parts
-// are then refused for their chunks, once the index is found to be good.
+// Reads the chunk files in a directory, or none if one of its names is no chunk file's: a block has a chunk, so such a folder is refused
+// for its chunks once its index was accepted.
 fn read_chunks<S: Store>(
     alloc: Global,
     store: &mut S,
@@ -50,7 +50,7 @@ fn read_chunks<S: Store>(
     Ok(Items::from_vec(files))
 }
 
-/// The parts of the block in a folder. All are read before any is judged.
+/// Reads the parts of the block in a folder. All parts are read before any is checked.
 pub fn read_parts<S: Store>(alloc: Global, store: &mut S, path: &str) -> Result<Block, Fault> {
     let index = read_in(alloc, store, path, "index")?;
     let dir = join(alloc, path, "chunks")?;

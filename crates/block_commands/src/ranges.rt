@@ -1,4 +1,4 @@
-//! The hours of a log that can be cut.
+//! The command `ranges`: the hours of a log that can be cut.
 
 ghost use Rattle.std.specs.Prelude.{◌≡◌, false};
 
@@ -11,7 +11,7 @@ use std::alloc::Global;
 use std::sync::Wait;
 use std::thread::Threads;
 
-// The full hours of a replayed log, a line each.
+// Prints the full hours of a replayed log, one a line.
 fn listed(alloc: Global, replayed: &Replayed) -> Result<Answer, Fault>
     requires { replayed.now.head.failed ≡ false }
 {
@@ -20,7 +20,7 @@ fn listed(alloc: Global, replayed: &Replayed) -> Result<Answer, Fault>
     Ok(Answer::up_to(text, replayed.damage))
 }
 
-/// Lists the full hours of the log in a directory, as far as it is not damaged.
+/// Prints the full hours of the log in a directory, up to its damage if it is damaged.
 pub fn ranges<R: Threads + Wait + Sync, S: Store, P: Progress + Sync>(
     rt: &R,
     alloc: Global,

@@ -1,11 +1,11 @@
-//! What is printed of blocks.
+//! The texts that the commands about blocks print.
 
 use block_read::BlockRows;
 use head_column::Hour;
 use prom_figures::{Counts, counts_of, ends};
 use std::alloc::{AllocError, Global};
 
-/// A line for each hour: its number, and the times at which it begins and has ended.
+/// Returns a line for each hour: its number, its first millisecond and the first one after it.
 pub fn ranges_text(alloc: Global, hours: &[Hour]) -> Result<String, AllocError> {
     let mut text = String::new(alloc);
     for hour in hours {
@@ -15,7 +15,7 @@ pub fn ranges_text(alloc: Global, hours: &[Hour]) -> Result<String, AllocError> 
     Ok(text)
 }
 
-/// Lines for how many samples, series and chunks a block has.
+/// Appends a line for each of a block's counts: samples, series and chunks.
 pub fn push_counts(text: &mut String, counts: &Counts) -> Result<(), AllocError> {
     writeln!(text, "samples {}", counts.samples)?;
     writeln!(text, "series {}", counts.series)?;
@@ -23,7 +23,7 @@ pub fn push_counts(text: &mut String, counts: &Counts) -> Result<(), AllocError>
     Ok(())
 }
 
-/// Lines for what a block holds: its name, its hour, how many samples, series and chunks it has, and how many runs of hidden times.
+/// Returns lines for what a block holds: its name, its hour, its samples, series and chunks, and its runs of hidden times.
 pub fn block_text(alloc: Global, block: &BlockRows) -> Result<String, AllocError> {
     let counts = counts_of(block.rows.as_slice());
     let (start, end) = ends(block.hour);

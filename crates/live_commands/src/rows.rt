@@ -1,4 +1,4 @@
-//! The rows of a file.
+//! Parsing a file of rows.
 
 use head_live::RawRow;
 use prom_commands::read_pair;
@@ -6,7 +6,7 @@ use prom_store::Fault;
 use std::alloc::{AllocError, Global};
 use std::str;
 
-// The number that a word is: an optional minus and decimal digits.
+// Parses a number: an optional minus and decimal digits.
 fn read_number(word: &str) -> Option<i64> {
     let digits = word.strip_prefix('-').unwrap_or(word);
     if digits.is_empty() || !digits.bytes().all(|byte| byte.is_ascii_digit()) {
@@ -15,7 +15,7 @@ fn read_number(word: &str) -> Option<i64> {
     word.parse().ok()
 }
 
-// The row that a line is: a time, a value and labels as they are printed, parted by one space.
+// Parses a row: a time, a value and labels as they are printed, separated by one space.
 fn read_row(alloc: Global, line: &str) -> Result<Option<RawRow>, AllocError> {
     let mut words = line.split(' ');
     let Some(time) = words.next().and_then(read_number) else {
@@ -34,7 +34,7 @@ fn read_row(alloc: Global, line: &str) -> Result<Option<RawRow>, AllocError> {
     Ok(Some(RawRow { pairs, time, value }))
 }
 
-// The row that the bytes of a line are.
+// Parses the bytes of a line as a row.
 fn row_of(alloc: Global, line: &[u8]) -> Result<Option<RawRow>, AllocError> {
     match str::from_utf8(line) {
         Ok(line) => read_row(alloc, line),
@@ -42,7 +42,7 @@ fn row_of(alloc: Global, line: &[u8]) -> Result<Option<RawRow>, AllocError> {
     }
 }
 
-/// The rows of a file, a line each. The newline behind the last one may be missing.
+/// Parses the rows of a file, one a line. The last newline may be missing. Returns `NotARow` with the first line that is no row.
 pub fn read_rows(alloc: Global, bytes: &[u8]) -> Result<Vec<RawRow>, Fault> {
     let mut rows = Vec::new(alloc);
     if bytes.is_empty() {

@@ -1,4 +1,4 @@
-//! What each command on a log does, over any store: it reads the log in a directory and makes the text that is printed.
+//! The commands on a log, over any store: each reads the log in a directory and makes the text to print.
 #![tactic(auto)]
 
 mod commands;

@@ -1,4 +1,4 @@
-//! A gate that says on a terminal how far a replay is.
+//! Progress of a replay, shown on a terminal.
 
 use crate::progress::Progress;
 use head_replay::Gate;
@@ -7,18 +7,19 @@ use std::mem;
 use std::sync::Mutex;
 use std::time::Clock;
 
-/// A gate that says on standard error how far a replay is: one line, rewritten at most ten times a second and cleared at the end. Where
-/// standard error is no terminal, or the clock does not answer, it writes nothing. Whether a line can be written makes no difference.
+/// Shows on standard error how far a replay is: one line, rewritten at most ten times a second and cleared at the end. It writes nothing
+/// if standard error is not a terminal or the clock fails, and ignores errors of writing.
 #[derive(Drop)]
 pub struct Meter<'a, R> {
     rt: &'a R,
     is_terminal: bool,
-    // There is one while there is a replay. Nobody waits for the lock: one thread begins and ends, and between that the first worker alone takes it.
+    // `Some` during a replay. No thread waits for the lock: one thread begins and ends the replay, and in between only the first worker
+    // takes it.
     pacer: Mutex<Option<Pacer>>,
 }
 
 impl<'a, R: Clock + Eprint> Meter<'a, R> {
-    /// It writes just if standard error is a terminal.
+    /// Returns a meter. `is_terminal` says whether standard error is a terminal: only then does it write.
     pub fn new(rt: &'a R, is_terminal: bool) -> Meter<'a, R> {
         Meter {
             rt,
@@ -27,7 +28,7 @@ impl<'a, R: Clock + Eprint> Meter<'a, R> {
         }
     }
 
-    // The millisecond of the clock.
+    // Returns the clock's time in milliseconds, or `None` if the clock fails.
     fn now(&self) -> Option<u64> {
         let now = self.rt.monotonic().ok()?;
         u64::try_from(now.as_millis()).ok()
@@ -37,13 +38,13 @@ impl<'a, R: Clock + Eprint> Meter<'a, R> {
         Some(Pacer::new(self.is_terminal, *extent, self.now()?))
     }
 
-    // Puts this in the place of what there is, and hands that back.
+    // Replaces the pacer, and returns the old one.
     fn put(&self, pacer: Option<Pacer>) -> Option<Pacer> {
         let mut place = self.pacer.try_lock()?;
         mem::replace(&mut *place, pacer)
     }
 
-    // The line that is due now.
+    // Returns the line that is due now, if any.
     fn line(&self, turn: u64) -> Option<Line> {
         let now = self.now()?;
         let mut place = self.pacer.try_lock()?;

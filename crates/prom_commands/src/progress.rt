@@ -10,12 +10,12 @@ use head_replay::{Gate, NoGate, Options};
 use prom_figures::Extent;
 use wal_log::{Input, Segment, pages};
 
-/// A gate that is told when a replay begins and when it ends, so that it can say how far it is.
+/// A gate of workers that hears when a replay begins and ends, so that it can show how far it is.
 pub trait Progress: Gate {
-    /// So much is going to be replayed.
+    /// Called before a replay of this extent.
     fn begin(&self, extent: &Extent);
 
-    /// The replay has come to its end, or was refused.
+    /// Called after the replay, also where it was refused.
     fn end(&self);
 }
 
@@ -25,7 +25,7 @@ impl Progress for NoGate {
     fn end(&self) {}
 }
 
-// How many bytes files have together, as a count of 64 bits.
+// Returns the total length of files in bytes; at most 2^64 - 1.
 fn bytes_of(files: &[Segment]) -> u64
     ensures { result ≡ u64_saturate (sum_by (λ s. length s.bytes) files.now) }
 {
@@ -36,7 +36,7 @@ fn bytes_of(files: &[Segment]) -> u64
     bytes
 }
 
-/// How much there is of a log, and in what rounds it is replayed.
+/// Returns the size of a log and of the rounds in which it is replayed.
 pub fn extent_of(input: &Input, options: &Options) -> Extent
     ensures pages { result.pages ≡ length (log_pages input.now) }
     ensures bytes { result.bytes ≡ u64_saturate (total_len input.now) }

@@ -1,16 +1,16 @@
-//! How the bytes of a label are printed, and read again.
+//! Spelling a label's bytes as text, and reading that text.
 
 ghost use Rattle.std.specs.Prelude.{◌<◌, ◌≤◌, IfSome, length};
 
 use std::alloc::{AllocError, Global};
 
-// Whether a byte is printed as itself.
+// Returns whether a byte is printed as itself.
 fn is_bare(byte: u8) -> bool {
     byte.is_ascii_graphic() && byte != b'\\' && byte != b'='
 }
 
-/// Prints the name or the value of a label. The bytes 0x21 to 0x7e without `\` and `=` stand for themselves, each other one
-/// is `\x` and two lower-case hexadecimal digits.
+/// Appends the spelling of a label's name or value. The bytes 0x21 to 0x7e except `\` and `=` are spelled as themselves, each other byte
+/// as `\x` and two lower-case hexadecimal digits.
 pub fn push_spelled(text: &mut String, label: &[u8]) -> Result<(), AllocError> {
     for byte in label {
         if is_bare(*byte) {
@@ -22,7 +22,7 @@ pub fn push_spelled(text: &mut String, label: &[u8]) -> Result<(), AllocError> {
     Ok(())
 }
 
-// The number of a lower-case hexadecimal digit.
+// Returns the number that a lower-case hexadecimal digit stands for.
 fn digit(digit: u8) -> Option<u8>
     ensures { IfSome result (λ number. number < 16) }
 {
@@ -33,7 +33,7 @@ fn digit(digit: u8) -> Option<u8>
     }
 }
 
-// The byte that the front of a word is printed for, and how many bytes of the word are its spelling.
+// Returns the byte whose spelling begins a word, and the length of that spelling.
 fn front(word: &[u8]) -> Option<(u8, usize)>
     ensures some { IfSome result (λ r. 0 < r.1) }
     ensures within { IfSome result (λ r. r.1 ≤ length word.now) }
@@ -52,7 +52,7 @@ fn front(word: &[u8]) -> Option<(u8, usize)>
     Some((byte, 4))
 }
 
-// The bytes that are printed as this word, or `None` if there are none.
+// Returns the bytes that this word spells, or `None` if it spells none.
 fn read_spelled(alloc: Global, word: &str) -> Result<Option<Vec<u8>>, AllocError> {
     let mut label = Vec::new(alloc);
     let mut rest = word.as_bytes();
@@ -66,8 +66,8 @@ fn read_spelled(alloc: Global, word: &str) -> Result<Option<Vec<u8>>, AllocError
     Ok(Some(label))
 }
 
-/// The name and the value of a label that is printed as this word, or `None` if there is no such label. There is just one `=`
-/// in the word.
+/// Reads a label of the form `NAME=VALUE`, both spelled as labels are printed. Returns its name and its value, or `None` if the word is no
+/// such label. The word has exactly one `=`.
 pub fn read_pair(alloc: Global, word: &str) -> Result<Option<(Vec<u8>, Vec<u8>)>, AllocError> {
     let Some((name, value)) = word.split_once('=') else {
         return Ok(None);

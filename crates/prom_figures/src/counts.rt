@@ -1,4 +1,4 @@
-//! How much a block holds.
+//! Counts of what a block holds.
 
 ghost use Rattle.std.specs.Prelude.{◌≡◌, length};
 ghost use Rattle.prom_figures.specs.Counts.{chunk_count, hidden_count, sample_count};
@@ -6,17 +6,17 @@ ghost use Rattle.prom_figures.specs.Counts.{chunk_count, hidden_count, sample_co
 use block_read::BlockRow;
 use head_column::CHUNK_SAMPLES;
 
-/// How much a block holds. A count past 64 bits, which no block in memory has, stays at the greatest.
+/// How much a block holds. A count past 64 bits, which no block in memory has, stays at 2^64 - 1.
 #[derive(Clone, Copy, Debug, PartialEq, Eq)]
 pub struct Counts {
     pub samples: u64,
     pub series: u64,
     pub chunks: u64,
-    /// The runs of hidden times.
+    /// The number of runs of hidden times.
     pub hidden: u64,
 }
 
-/// How much these rows hold.
+/// Counts the series, chunks, samples and hidden runs of a block's rows.
 pub fn counts_of(rows: &[BlockRow]) -> Counts
     ensures samples { result.samples ≡ sample_count rows.now }
     ensures series { result.series ≡ length rows.now }

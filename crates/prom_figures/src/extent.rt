@@ -5,6 +5,6 @@
 pub struct Extent {
     pub pages: u64,
     pub bytes: u64,
-    /// How many pages are taken in a round.
+    /// The number of pages in a round.
     pub round_pages: u64,
 }

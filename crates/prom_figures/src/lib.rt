@@ -1,5 +1,5 @@
-//! The figures that the program tells: how far a replay is, and when a terminal is told; how much a block holds, and when an hour
-//! begins and has ended. Nothing here reads a log or writes to a terminal.
+//! The figures that the program prints: how far a replay is and when a terminal shows it, how much a block holds, and when an hour
+//! begins and ends. Nothing here reads a log or writes to a terminal.
 #![tactic(auto)]
 
 mod counts;

@@ -1,4 +1,4 @@
-//! The line that says how far a replay is.
+//! The line that shows how far a replay is.
 
 ghost use Rattle.std.specs.Prelude.{◌≡◌, Some};
 ghost use Rattle.prom_figures.specs.Progress.{bytes_done, line_text, seconds_left};
@@ -9,7 +9,7 @@ use wal_page::PAGE_SIZE;
 
 const MEGABYTE: u64 = 1_000_000;
 
-/// A replay of so much, of which so many pages are done, in so many milliseconds.
+/// How far a replay is: what it has to do, the pages done, and the milliseconds that they took.
 #[derive(Clone, Copy, Debug)]
 pub struct Line {
     pub extent: Extent,

@@ -1,4 +1,4 @@
-//! When a terminal is told how far a replay is.
+//! When a terminal shows how far a replay is.
 
 ghost use Rattle.std.specs.Prelude.{◌≡◌, ◌↔◌, IfNone, IfSome, IsSome, IsTrue, OnSome, codes, is_some};
 ghost use Rattle.prom_figures.specs.Progress.{begun, is_due, line_at, told};
@@ -6,28 +6,28 @@ ghost use Rattle.prom_figures.specs.Progress.{begun, is_due, line_at, told};
 use crate::extent::Extent;
 use crate::line::Line;
 
-/// The least time from one line to the next, in milliseconds.
+/// The least time between two lines, in milliseconds.
 const PAUSE: u64 = 100;
 
-/// Clears the line that stands on a terminal.
+/// Clears the line on a terminal.
 const CLEAR: &str = "\r\x1b[K";
 
-/// What a terminal was told of a replay. It has no clock and writes nothing: it is told the time, and answers with what is to be written.
+/// What a terminal has shown of a replay. It has no clock and writes nothing: each call takes the time and returns the text to write.
 #[derive(Clone, Copy, Debug)]
 pub struct Pacer {
     /// Whether there is a terminal.
     pub is_terminal: bool,
     pub extent: Extent,
-    /// At which millisecond the replay began.
+    /// When the replay began, in milliseconds of the clock.
     pub began: u64,
-    /// At which millisecond the last line was told, or the replay began.
+    /// When the last line was returned, or else when the replay began.
     pub last: u64,
-    /// Whether a line was told.
+    /// Whether a line was returned.
     pub has_line: bool,
 }
 
 impl Pacer {
-    /// A replay of so much begins.
+    /// Begins a replay of this extent at the millisecond `now`.
     pub fn new(is_terminal: bool, extent: Extent, now: u64) -> Pacer
         ensures { result ≡ begun is_terminal extent now }
     {
@@ -40,7 +40,7 @@ impl Pacer {
         }
     }
 
-    /// The line that is due at the beginning of this round, when the rounds before it are done.
+    /// Returns the line that is due at the beginning of the round `turn`, whose earlier rounds are done. Returns `None` if no line is due.
     pub fn line(&mut self, turn: u64, now: u64) -> Option<Line>
         ensures due { is_some result ≡ is_due self.old turn now }
         ensures line { IfSome result (λ line. line ≡ line_at self.old turn now) }
@@ -61,7 +61,7 @@ impl Pacer {
         })
     }
 
-    /// What clears the line at the end of the replay, if one was told.
+    /// Returns the text that clears the line at the end of the replay, or `None` if there was no line.
     pub fn clearing(&self) -> Option<&'static str>
         ensures line { IsSome result ↔ IsTrue self.now.has_line }
         ensures text { IfSome result (λ text. text.now ≡ codes "\r\u{1b}[K") }

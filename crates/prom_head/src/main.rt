@@ -14,7 +14,7 @@ use std::sync::Wait;
 use std::thread::Threads;
 use std::time::Clock;
 
-// The words of the command line, the program's own name first.
+// Collects the words of the command line. The first one is the program's name.
 fn arguments<R: Env + AllocGlobal>(rt: &R) -> Result<Vec<String>, LineFault> {
     match env::args(rt) {
         Ok(words) => Ok(words.collect(rt.alloc())?),
@@ -23,8 +23,8 @@ fn arguments<R: Env + AllocGlobal>(rt: &R) -> Result<Vec<String>, LineFault> {
     }
 }
 
-// Says why nothing was carried out or printed, and gives the status to end with. It allocates nothing, so that a want of
-// memory is said too.
+// Prints why no command was carried out or printed, and returns the exit status. It does not allocate, so that it can report
+// that memory ran out.
 fn refuse(rt: &impl Eprint, fault: &LineFault) -> Status {
     let _ = match fault {
         LineFault::Usage(error) => rt.eprint(error),
@@ -33,12 +33,12 @@ fn refuse(rt: &impl Eprint, fault: &LineFault) -> Status {
     fault.status()
 }
 
-// Says why a command failed. It allocates nothing.
+// Prints why a command failed. It does not allocate.
 fn complain(rt: &impl Eprint, fault: &Fault) {
     let _ = eprintln!(rt; "prom_head: {fault}");
 }
 
-// Prints what a command left, and gives the status to end with.
+// Prints the answer of a command, and returns the exit status.
 fn show<R: Print + Eprint>(rt: &R, answer: &Answer) -> Status {
     if rt.write_all(answer.printed.as_bytes()).is_err() {
         return refuse(rt, &LineFault::CannotPrint);

@@ -8,7 +8,8 @@ use prom_store::{LineFault, Status, Store};
 use std::sync::Wait;
 use std::thread::Threads;
 
-/// Runs the program on these words, its own name first. `progress` is told how far a replay is. A store is asked for nothing where the words are refused.
+/// Runs the program over a store. The first word is the program's name. `progress` hears how far a replay is. Where the words are
+/// refused, the store is not called.
 pub fn run<R: AllocGlobal + Threads + Wait + Sync, S: Store, P: Progress + Sync>(
     rt: &R,
     store: &mut S,

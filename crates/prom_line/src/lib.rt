@@ -1,4 +1,4 @@
-//! The words of a command line, as what they ask for.
+//! The command line: its words, parsed to a request.
 #![tactic(auto)]
 
 mod options;

@@ -1,4 +1,4 @@
-//! The command line.
+//! The command line, by `clap`.
 
 use clap::error::ErrorKind;
 use clap::{Arg, ArgMatches, Command, Error, value_parser};
@@ -6,19 +6,19 @@ use head_replay::Options;
 use prom_store::{AppendRequest, BlockRequest, CutRequest, Request};
 use std::alloc::{AllocError, Global};
 
-/// What the command line asks for.
+/// The request of a command line.
 #[derive(Clone, Copy, Debug, PartialEq, Eq)]
 pub enum Asked<'a> {
-    /// To say what a log holds.
+    /// Print what a log holds.
     OfLog(Request<'a>),
-    /// To cut a log into blocks, or to say what a block holds.
+    /// List or cut the hours of a log, or print what a block holds.
     OfBlocks(BlockRequest<'a>),
-    /// To go on writing a log.
+    /// Append rows to a log.
     Append(AppendRequest<'a>),
 }
 
-// These take the lifetime of the words, though their own texts are static, since the borrow checker does not shorten a
-// lifetime inside a `Command`.
+// These functions take the lifetime of the words, though their own texts are static: the borrow checker does not shorten a lifetime
+// inside a `Command`.
 
 fn dir<'a>(alloc: Global) -> Arg<'a> {
     Arg::new(alloc, "dir")
@@ -45,7 +45,7 @@ fn round_pages<'a>(alloc: Global) -> Arg<'a> {
         .default_value("256")
 }
 
-// A command that replays the log, with the options of how.
+// Adds the options of replay to a command.
 fn replaying<'a>(
     alloc: Global,
     command: Result<Command<'a>, AllocError>,
@@ -141,7 +141,7 @@ fn append<'a>(alloc: Global) -> Result<Command<'a>, AllocError> {
         .arg(rows)
 }
 
-// A command with one more below it. There is one place where a half-made command is let go, which is dear to prove.
+// Adds a subcommand. It is the one place where an unfinished command is dropped, which is dear to prove.
 fn with<'a>(
     command: Command<'a>,
     below: Result<Command<'a>, AllocError>,
@@ -163,7 +163,7 @@ fn command<'a>(alloc: Global) -> Result<Command<'a>, AllocError> {
     with(command, replaying(alloc, append(alloc)))
 }
 
-// How the log is to be replayed.
+// Returns the options of replay.
 fn options(of: &ArgMatches<'_>) -> Option<Options> {
     Some(Options {
         workers: usize::from(of.get_one::<u8>("workers")?),
@@ -238,12 +238,12 @@ fn matched<'a>(command: &mut Command<'a>, words: &'a [String]) -> Result<Option<
 fn parsed<'a>(command: &mut Command<'a>, words: &'a [String]) -> Result<Asked<'a>, Error> {
     match matched(command, words)? {
         Some(asked) => Ok(asked),
-        // Not reached: clap has seen to it that there is a subcommand and that it has what it needs.
+        // not reached: clap has checked that there is a subcommand with its arguments
         None => Err(command.error(ErrorKind::MissingSubcommand, "a command is missing")?),
     }
 }
 
-/// Reads the command line, the program's own name first. A request for help is an `Err` too.
+/// Parses a command line, whose first word is the program's name. A request for help is an `Err` too, with the text to print.
 pub fn parse<'a>(alloc: Global, words: &'a [String]) -> Result<Asked<'a>, Error> {
     let mut command = command(alloc)?;
     parsed(&mut command, words)

@@ -1,9 +1,9 @@
-//! Damage, as it is told.
+//! Damage, as the program prints it.
 
 use std::fmt;
 use wal_log::{Damage, Place};
 
-/// What kind of file a place is in.
+/// Returns what kind of file a place is in: `checkpoint` or `segment`.
 pub fn kind_of_file(place: Place) -> &'static str {
     if place.in_checkpoint {
         "checkpoint"
@@ -12,7 +12,7 @@ pub fn kind_of_file(place: Place) -> &'static str {
     }
 }
 
-/// Damage, as it is told: the file, the offset in it, and the kind.
+/// The line that reports damage: the file, the offset in it in bytes, and the kind.
 #[derive(Clone, Copy, Debug, PartialEq, Eq)]
 pub struct DamageLine(pub Damage);
 

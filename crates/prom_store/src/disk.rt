@@ -1,4 +1,4 @@
-//! The store of real files.
+//! The store over real files.
 
 ghost use Rattle.std.specs.Prelude.{◌≡◌, ◌⊎◌, Ok, Err, IfErr, IfOk, IfSome, IsErr, MatchResult, map, string_bytes};
 ghost use Rattle.std.specs.Iterator.{Drains, IsFinite};
@@ -24,10 +24,10 @@ impl<'a, R> Disk<'a, R> {
     }
 }
 
-/// How many times a file is read from before it is given up, so that no device is read for ever.
+/// The most calls of `read` for one file. A device that never ends is refused after them.
 const MOST_READS: u64 = 4_294_967_296;
 
-// A reader that gives no more once it was read from so many times.
+// A reader that returns an error once `reads_left` calls of `read` were made.
 #[derive(Drop)]
 struct Limited<'a, R> {
     reader: &'a mut R,
@@ -46,8 +46,8 @@ impl<R: Read> Read for Limited<'_, R> {
     }
 }
 
-/// All that a reader has left. Room is made once for as many bytes as it says that it has, though it may have fewer or more. It is
-/// refused where the end has not come within `MOST_READS` reads.
+/// Reads a reader to its end. `length` is the number of bytes that it is expected to have; it may have fewer or more. Returns an error
+/// where the reader fails, where its end does not come within `MOST_READS` calls of `read`, or where memory runs out.
 pub fn read_whole<R: Read>(
     alloc: Global,
     reader: &mut R,
@@ -55,7 +55,7 @@ pub fn read_whole<R: Read>(
 ) -> Result<Vec<u8>, StoreFault>
     ensures { IfOk result (λ bytes. IfSome (R.remaining reader.old) (λ rest. bytes.items ≡ rest)) }
 {
-    // with one byte more than it has, so that the end is met in the same room
+    // one byte more than it has, so that the end is found without growing the buffer
     let mut bytes = Vec::with_capacity(alloc, (length as usize).saturating_add(1))?;
     let mut limited = Limited {
         reader,
@@ -65,7 +65,7 @@ pub fn read_whole<R: Read>(
     Ok(bytes)
 }
 
-// How many bytes a file says that it has: 0 where it does not say.
+// Returns the length of a file in bytes by its metadata, or 0 if that cannot be read.
 fn length_of(file: &impl OpenFile) -> u64 {
     match file.metadata() {
         Ok(metadata) => metadata.len(),
@@ -73,7 +73,7 @@ fn length_of(file: &impl OpenFile) -> u64 {
     }
 }
 
-// The name of an entry of a directory, where it was read.
+// Copies the name of a directory's entry, or passes on the error in its place.
 fn name_of<R: Files + Drop>(
     alloc: Global,
     entry: io::Result<DirEntry<R>>,
@@ -83,7 +83,7 @@ fn name_of<R: Files + Drop>(
     Ok(String::from_str(alloc, entry?.file_name())?)
 }
 
-/// The names of the entries of a directory, in the order in which they come. There are none where one of them was not read.
+/// Collects the names of a directory's entries, in the order in which they come. Returns the first error among them, if there is one.
 pub fn names_of<I: Iterator<Item = Result<String, StoreFault>> + Drop>(
     alloc: Global,
     entries: I,
@@ -123,7 +123,7 @@ impl<R: Files + AllocGlobal + Clone + Drop> Store for Disk<'_, R> {
         Ok(writer.sync_all()?)
     }
 
-    // A directory is opened as a file is, to be read.
+    // a directory is opened for reading, as a file is
     fn sync_dir(&mut self, path: &str) -> Result<(), StoreFault> {
         Ok(File::open(self.rt, path)?.sync_all()?)
     }

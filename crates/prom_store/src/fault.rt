@@ -1,4 +1,4 @@
-//! How a run can end.
+//! How a run can end: faults, their texts and exit statuses.
 
 ghost use Rattle.std.specs.Prelude.{◌≡◌, ◌↔◌, ◌⊎◌};
 ghost use Rattle.wal_log.specs.declared.plan.PlanFault.TheVariants as plan;
@@ -25,12 +25,11 @@ use wal_log::{InputFault, InputRefused, PlanFault};
 #[derive(Clone, Copy, Debug, PartialEq, Eq)]
 pub enum Status {
     Done = 0,
-    /// The log is damaged, or the block is. Of a log, what stands before the damage was printed, but where a block was to be made
-    /// of it.
+    /// The log or the block is damaged. What a log holds before the damage was printed, unless a block was to be made of it.
     Damaged = 1,
     /// The arguments are wrong. Nothing was read.
     Usage = 2,
-    /// Input or output failed, or what was asked cannot be done.
+    /// Input or output failed, or the request cannot be met.
     Refused = 3,
     /// Memory ran out, or a thread could not start.
     Exhausted = 4,
@@ -42,48 +41,48 @@ impl From<Status> for ExitCode {
     }
 }
 
-/// Why a command failed. Its `Display` is what is said of it on standard error, after the program's name.
+/// Why a command failed. Its `Display` is the text that is printed on standard error behind the program's name.
 #[derive(Drop)]
 pub enum Fault {
-    /// The option `--pair` is no label as it is printed.
+    /// The option `--pair` does not spell a label as labels are printed.
     NoPair,
-    /// The option `--ulid` is no name of a block.
+    /// The option `--ulid` does not spell a ULID.
     BadUlid,
-    /// The log is damaged. What stands before the damage was printed, but where a block was to be made of it.
+    /// The log is damaged. What it holds before the damage was printed, unless a block was to be made of it.
     Damage(DamageLine),
-    /// The index of a block is none.
+    /// The index of a block is refused.
     BadIndex(ReadFault),
-    /// The chunk files of a block are not those of its index.
+    /// The chunk files of a block do not fit its index.
     BadChunks,
-    /// The tombstones of a block are not those of any hidden times of its series.
+    /// The tombstones of a block are refused.
     BadTombstones,
     /// meta.json of a block does not say what the block holds.
     BadMeta,
-    /// The file or directory at this path was not read.
+    /// The file or directory at this path cannot be read.
     CannotRead { path: String },
-    /// The file or directory at this path was not written.
+    /// The file or directory at this path cannot be written.
     CannotWrite { path: String },
-    /// The hour begins before the least time or ends past the greatest, or none of its times is one of 64 bits.
+    /// The hour does not lie within the times of 64 bits.
     Edge,
     /// No accepted sample is at or past the end of the hour.
     NotFull,
     /// No accepted sample is in the hour.
     NoSamples,
-    /// A number is missing between two files of the log, or two files have one number.
+    /// A number between two files of the log is missing, or two files have the same number.
     Gap,
-    /// All files of the log together have 2^64 bytes or more, or a block would be larger than its index can say.
+    /// The files of the log have 2^64 bytes or more in total, or a block is larger than its index can say.
     TooLarge,
     /// The log has more series, label texts or entries than a head may have.
     Full,
-    /// A line of the file of rows, counted from 1, is none.
+    /// A line of the file of rows is not a row. Lines are counted from 1.
     NotARow { line: u64 },
-    /// A row has a label with no name.
+    /// A row has a label with an empty name.
     EmptyLabelName { line: u64 },
-    /// A row has a label whose name is not past that of the one before it.
+    /// A row has a label whose name is not greater than the one before it.
     LabelsNotAscending { line: u64 },
     /// A new label set would need a reference past 2^64 - 1.
     RefsSpent,
-    /// What is logged of the rows is longer than a segment.
+    /// The records of the accepted rows do not fit in one segment.
     SegmentFull,
     OutOfMemory,
     /// A thread could not start.
@@ -91,7 +90,8 @@ pub enum Fault {
 }
 
 impl Fault {
-    /// Why the file or directory at `path` was not read. `OutOfMemory` too where the path cannot be copied.
+    /// Returns the fault of a file or directory at `path` that cannot be read: `CannotRead`, or `OutOfMemory` if memory ran out, also
+    /// while the path was copied.
     pub fn cannot_read(alloc: Global, path: &str, fault: StoreFault) -> Fault
         ensures told { TellsUnread path.now result }
         ensures memory { fault ≡ StoreFault.OutOfMemory → result ≡ OutOfMemory }
@@ -102,7 +102,8 @@ impl Fault {
         }
     }
 
-    /// Why the file or directory at `path` was not written. `OutOfMemory` too where the path cannot be copied.
+    /// Returns the fault of a file or directory at `path` that cannot be written: `CannotWrite`, or `OutOfMemory` if memory ran out, also
+    /// while the path was copied.
     pub fn cannot_write(alloc: Global, path: &str, fault: StoreFault) -> Fault
         ensures told { TellsUnwritten path.now result }
         ensures memory { fault ≡ StoreFault.OutOfMemory → result ≡ OutOfMemory }
@@ -113,12 +114,12 @@ impl Fault {
         }
     }
 
-    // What is said of it, but for what it holds.
+    // Returns the fixed part of the fault's text.
     fn text(&self) -> &'static str {
         match self {
             Fault::NoPair => "pair must be NAME=VALUE",
             Fault::BadUlid => "ulid must be 26 Crockford characters",
-            // its line says all
+            // the line is the whole text
             Fault::Damage(_) => "",
             Fault::BadIndex(_) => "bad index",
             Fault::BadChunks => "bad chunks",
@@ -142,7 +143,7 @@ impl Fault {
         }
     }
 
-    /// The status that the program ends with: `Refused` but for the faults that these clauses name.
+    /// Returns the exit status: `Refused` for every fault that no clause names.
     pub fn status(&self) -> Status
         ensures usage { (result ≡ Status.Usage) ↔ ((self.now ≡ NoPair) ⊎ (self.now ≡ BadUlid)) }
         ensures damaged { (result ≡ Status.Damaged) ↔ TellsDamage self.now }
@@ -189,7 +190,7 @@ impl fmt::Display for Fault {
     }
 }
 
-// As it is displayed: one that is derived is dear to prove.
+// Prints what `Display` prints: a derived impl is dear to prove.
 impl fmt::Debug for Fault {
     fn fmt<W: fmt::Write>(&self, f: &mut fmt::Formatter<W>) -> fmt::Result {
         fmt::Display::fmt(self, f)
@@ -216,7 +217,7 @@ impl From<ReplayFault> for Fault {
         match fault {
             ReplayFault::Full => Fault::Full,
             ReplayFault::Memory => Fault::OutOfMemory,
-            // the command line takes no number of workers but 1 to 64, so that the first two do not come
+            // the first two do not occur: the command line takes 1 to 64 workers
             ReplayFault::NoWorkers | ReplayFault::TooManyWorkers | ReplayFault::Workers => {
                 Fault::Workers
             }

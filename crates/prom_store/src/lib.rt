@@ -1,4 +1,4 @@
-//! What the program can be asked for, the store that it works over, and how a run can end.
+//! Requests to the program, the store that it works over, and how a run can end.
 #![tactic(auto)]
 
 mod damage;

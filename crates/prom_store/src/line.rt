@@ -1,4 +1,4 @@
-//! How the program can fail apart from its commands.
+//! Faults of the program outside its commands.
 
 ghost use Rattle.std.specs.Prelude.{◌≡◌, ◌↔◌};
 ghost use Rattle.clap.specs.Values.{kind_of};
@@ -10,11 +10,11 @@ use clap::error::ErrorKind;
 use std::alloc::{AllocError, AllocFailed};
 use thiserror::Error;
 
-/// Why no command was carried out, or its text not printed. Its `Display` is what is said of it on standard error, but for
-/// `Usage` after the program's name.
+/// Why no command was carried out, or why its text was not printed. Its `Display` is the text that is printed on standard error, behind
+/// the program's name unless it is `Usage`.
 #[derive(Debug, Drop, Error)]
 pub enum LineFault {
-    /// The command line was refused, or help was asked for. This text has several lines, and stands alone.
+    /// The command line was refused, or help was asked for. The text has several lines and is printed alone.
     #[error(transparent)]
     Usage(clap::Error),
     #[error("the arguments must be UTF-8")]
@@ -26,7 +26,7 @@ pub enum LineFault {
 }
 
 impl LineFault {
-    /// The status that the program ends with.
+    /// Returns the exit status.
     pub fn status(&self) -> Status {
         match self {
             LineFault::Usage(_) | LineFault::NotUtf8 => Status::Usage,

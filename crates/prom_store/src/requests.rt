@@ -1,20 +1,20 @@
-//! What the program can be asked for.
+//! Requests to the program.
 
 use head_replay::Options;
 
-/// What the command line asks of a log.
+/// A request that reads a log.
 #[derive(Clone, Copy, Debug, PartialEq, Eq)]
 pub enum Request<'a> {
-    /// To count what the log in a directory holds.
+    /// Count what the log in a directory holds.
     Replay {
         dir: &'a str,
         options: Options,
     },
-    /// To list the records of the log in a directory.
+    /// List the records of the log in a directory.
     Records {
         dir: &'a str,
     },
-    /// To list the series of the log in a directory, or those of them that have a label, spelled as it is printed.
+    /// List the series of the log in a directory: all, or those that have the label `pair`, which is spelled as labels are printed.
     Series {
         dir: &'a str,
         pair: Option<&'a str>,
@@ -22,18 +22,18 @@ pub enum Request<'a> {
     },
 }
 
-/// What the command line asks of blocks.
+/// A request about blocks.
 #[derive(Clone, Copy, Debug, PartialEq, Eq)]
 pub enum BlockRequest<'a> {
-    /// To list the hours of the log in a directory that can be cut.
+    /// List the hours of the log in a directory that can be cut.
     Ranges { dir: &'a str, options: Options },
-    /// To cut an hour of a log into a block.
+    /// Cut an hour of a log into a block.
     Cut(CutRequest<'a>),
-    /// To say what the block in a folder holds.
+    /// Print what the block in a folder holds.
     Block { path: &'a str },
 }
 
-/// To cut an hour of the log in a directory into a block of this name, in a folder in the directory `out`.
+/// A request to cut an hour of the log in the directory `dir` into a block named `ulid`, in a folder of that name in the directory `out`.
 #[derive(Clone, Copy, Debug, PartialEq, Eq)]
 pub struct CutRequest<'a> {
     pub dir: &'a str,
@@ -43,7 +43,7 @@ pub struct CutRequest<'a> {
     pub options: Options,
 }
 
-/// To append the rows of a file to the log in a directory.
+/// A request to append the rows of a file to the log in a directory.
 #[derive(Clone, Copy, Debug, PartialEq, Eq)]
 pub struct AppendRequest<'a> {
     pub dir: &'a str,

@@ -9,10 +9,10 @@ use std::alloc::{AllocError, AllocFailed};
 use std::io;
 use std::io::{ErrorKind, Write};
 
-/// Why a store did not serve.
+/// Why a call of a store failed.
 #[derive(Clone, Copy, Debug, PartialEq, Eq)]
 pub enum StoreFault {
-    /// The file system refused, or gave what is no UTF-8.
+    /// The file system refused, or returned a name that is not UTF-8.
     Refused,
     OutOfMemory,
 }
@@ -44,31 +44,30 @@ impl<T: Drop> From<AllocFailed<T>> for StoreFault {
     }
 }
 
-/// Directories and files, by the names of `std::fs`.
+/// Directories and files. Its calls have the names of `std::fs`.
 pub trait Store {
     /// A file that was created. It is closed when it is dropped.
     type Writer: Write + Drop;
 
-    /// The names in a directory, in any order. It is refused where one of them is not UTF-8.
+    /// Returns the names in a directory, in any order. Returns an error if one of them is not UTF-8.
     fn read_dir(&mut self, path: &str) -> Result<Vec<String>, StoreFault>;
 
-    /// All bytes of a file.
+    /// Reads all bytes of a file.
     fn read(&mut self, path: &str) -> Result<Vec<u8>, StoreFault>;
 
-    /// A new file. It is refused where there is one already.
+    /// Creates a file. Returns an error if the path exists.
     fn create_new(&mut self, path: &str) -> Result<Self::Writer, StoreFault>;
 
-    /// Has what was written to a new file stand on the device.
+    /// Syncs a new file: what was written to it outlasts a crash.
     fn sync_file(&mut self, writer: &mut Self::Writer) -> Result<(), StoreFault>;
 
-    /// Has the names in a directory stand on the device.
+    /// Syncs a directory: its names outlast a crash.
     fn sync_dir(&mut self, path: &str) -> Result<(), StoreFault>;
 
-    /// A new directory. It is refused where there is one already.
+    /// Creates a directory. Returns an error if the path exists.
     fn create_dir(&mut self, path: &str) -> Result<(), StoreFault>;
 
-    /// Moves a file, or a directory with all that is in it. A directory goes to a path that names nothing yet; a file takes the place
-    /// of a file that is there.
+    /// Renames a file, or a directory with its contents. A file replaces the file at `to`; a directory needs a path that does not exist.
     fn rename(&mut self, from: &str, to: &str) -> Result<(), StoreFault>;
 
     fn remove_file(&mut self, path: &str) -> Result<(), StoreFault>;
