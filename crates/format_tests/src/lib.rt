@@ -16,6 +16,8 @@ mod files;
 #[cfg(test)]
 mod indices;
 #[cfg(test)]
+mod joiners;
+#[cfg(test)]
 mod labels;
 #[cfg(test)]
 mod logs;

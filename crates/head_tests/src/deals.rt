@@ -8,7 +8,7 @@ use std::fmt::Debug;
 use std::process::Abort;
 
 // A builder of a series, to which nothing came yet.
-trait Fresh: Builder<Item = Item, Outcome = Outcome> {
+pub(crate) trait Fresh: Builder<Item = Item, Outcome = Outcome> {
     fn fresh(alloc: Global) -> Self;
 }
 
@@ -52,7 +52,7 @@ fn fresh_builders<B: Fresh>(alloc: Global, slots: usize) -> Result<Vec<B>, Alloc
 }
 
 // A deal of these items to three slots, or to more.
-fn dealt<B: Fresh>(
+pub(crate) fn dealt<B: Fresh>(
     alloc: Global,
     tag: u64,
     workers: usize,
@@ -313,126 +313,6 @@ fn counts_of_workers(rt: HostRuntime) -> Result<(), AllocError> {
     check_worker_count(&rt, rt.alloc(), 0, DealFault::NoWorkers)?;
     check_worker_count(&rt, rt.alloc(), 65, DealFault::TooManyWorkers)?;
     check_worker_count(&rt, rt.alloc(), usize::MAX, DealFault::TooManyWorkers)
-}
-
-// A part of a deal of the five items.
-#[derive(Clone, Copy, Debug)]
-struct Made {
-    tag: u64,
-    workers: usize,
-    slots: usize,
-    worker: usize,
-    runs: bool,
-}
-
-fn make_part(alloc: Global, made: Made) -> Result<Part<Tally>, AllocError> {
-    let deal: Deal<Tally> = dealt(alloc, made.tag, made.workers, made.slots)?;
-    for mut part in deal.into_parts().map_err(|_| AllocError)? {
-        if part.worker() == made.worker {
-            if made.runs {
-                run_part(&mut part)?;
-            }
-            return Ok(part);
-        }
-    }
-    Err(AllocError)
-}
-
-const FIRST: Made = Made {
-    tag: 1,
-    workers: 2,
-    slots: 3,
-    worker: 0,
-    runs: true,
-};
-
-const SECOND: Made = Made { worker: 1, ..FIRST };
-
-// Parts that are not joined, and why. What is wrong is found in the order of the lines.
-const NOT_JOINED: &[(&[Made], JoinFault)] = &[
-    (
-        &[FIRST, FIRST, Made { tag: 2, ..SECOND }],
-        JoinFault::Stranger,
-    ),
-    (
-        &[
-            FIRST,
-            Made {
-                workers: 3,
-                ..SECOND
-            },
-        ],
-        JoinFault::Stranger,
-    ),
-    (&[FIRST, Made { slots: 4, ..SECOND }], JoinFault::Stranger),
-    (
-        &[
-            FIRST,
-            Made {
-                runs: false,
-                ..FIRST
-            },
-        ],
-        JoinFault::Doubled,
-    ),
-    (&[SECOND, FIRST, SECOND], JoinFault::Doubled),
-    (&[], JoinFault::Missing),
-    (
-        &[Made {
-            runs: false,
-            ..FIRST
-        }],
-        JoinFault::Missing,
-    ),
-    (&[SECOND], JoinFault::Missing),
-    (
-        &[
-            FIRST,
-            Made {
-                runs: false,
-                ..SECOND
-            },
-        ],
-        JoinFault::Unfinished,
-    ),
-    (
-        &[
-            SECOND,
-            Made {
-                runs: false,
-                ..FIRST
-            },
-        ],
-        JoinFault::Unfinished,
-    ),
-];
-
-fn check_not_joined(
-    rt: &impl Abort,
-    alloc: Global,
-    list: &[Made],
-    fault: JoinFault,
-) -> Result<(), AllocError> {
-    let mut parts = Vec::new(alloc);
-    for of in list {
-        parts.push(make_part(alloc, *of)?)?;
-    }
-    match join_parts(alloc, parts) {
-        Ok(_) => same(rt, list, None, Some(fault)),
-        Err(refused) => {
-            same(rt, list, refused.fault, fault);
-            same(rt, list, refused.parts.len(), list.len());
-        }
-    }
-    Ok(())
-}
-
-#[test]
-fn parts_that_are_not_joined(rt: HostRuntime) -> Result<(), AllocError> {
-    for (list, fault) in NOT_JOINED {
-        check_not_joined(&rt, rt.alloc(), list, *fault)?;
-    }
-    Ok(())
 }
 
 // Each call once, for two workers. Whatever memory is refused, what comes of it is right or nothing.

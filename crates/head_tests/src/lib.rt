@@ -89,6 +89,8 @@ mod starts;
 #[cfg(test)]
 mod tickets;
 #[cfg(test)]
+mod unjoined;
+#[cfg(test)]
 mod views;
 #[cfg(test)]
 mod worked;
