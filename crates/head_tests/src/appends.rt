@@ -12,15 +12,26 @@ use wal_log::LogWriter;
 
 // A head's log, a segment of so many pages on a device that has room for so many bytes, and the rows of each call.
 #[derive(Clone, Copy)]
-struct Appends {
+pub(crate) struct Appends {
     log: &'static [Entry],
     pages: u32,
     room: usize,
     calls: &'static [&'static [Row]],
 }
 
+impl Appends {
+    /// The same, on a device that has room for so many bytes.
+    pub(crate) fn with_room(self, room: usize) -> Appends {
+        Appends { room, ..self }
+    }
+
+    pub(crate) fn calls(&self) -> &'static [&'static [Row]] {
+        self.calls
+    }
+}
+
 // An open head that is to take rows.
-fn open(alloc: Global, case: &Appends) -> Result<Live<Device>, AllocError> {
+pub(crate) fn open(alloc: Global, case: &Appends) -> Result<Live<Device>, AllocError> {
     let head = head_of(alloc, case.log).map_err(|_| AllocError)?;
     if head.is_failed() {
         return Err(AllocError);
@@ -34,7 +45,7 @@ fn open(alloc: Global, case: &Appends) -> Result<Live<Device>, AllocError> {
 }
 
 // What the rows of a call are told, a letter each, or the fault.
-fn push_call(
+pub(crate) fn push_call(
     text: &mut String,
     alloc: Global,
     live: &mut Live<Device>,
@@ -98,7 +109,7 @@ const THREE: &[Row] = &[(1000, 5, API), (1015, 6, API), (1015, 7, API)];
 const ONE: &[Row] = &[(1030, 8, API)];
 
 // A series of 69 bytes, and then one sample more.
-const THREE_AND_ONE: Appends = Appends {
+pub(crate) const THREE_AND_ONE: Appends = Appends {
     calls: &[THREE, ONE],
     ..NONE
 };
@@ -203,28 +214,13 @@ fn full_segment(rt: HostRuntime) {
 const BYTES: &str = "0100128DAC905901000000000000000101036A6F6203617069\
     0100258849D67E02000000000000000100000000000003E800000000000000000005001E0000000000000006";
 
-// What the three rows and the one leave where the device has room for so many bytes of the first call's.
-fn broken_text(alloc: Global, room: usize) -> Result<String, AllocError> {
-    let mut text = String::from_str(alloc, "Write 0 Failed 0 ")?;
-    for digit in BYTES.chars().take(room.saturating_mul(2)) {
+/// The first so many bytes of the three rows, as digits.
+pub(crate) fn first_bytes(alloc: Global, count: usize) -> Result<String, AllocError> {
+    let mut text = String::new(alloc);
+    for digit in BYTES.chars().take(count.saturating_mul(2)) {
         text.push(digit)?;
     }
-    text.push_str(" | 0 0 0 0 Some(1) None 0")?;
     Ok(text)
-}
-
-#[test]
-fn device_that_fails_at_each_byte(rt: HostRuntime) -> Result<(), AllocError> {
-    for room in 0..69 {
-        let case = Appends {
-            room,
-            ..THREE_AND_ONE
-        };
-        let found = case.text(rt.alloc())?;
-        let wanted = broken_text(rt.alloc(), room)?;
-        assert_eq!(&rt; found.as_str(), wanted.as_str(), "room for {room}");
-    }
-    Ok(())
 }
 
 const MIXED: Appends = Appends {

@@ -16,8 +16,8 @@ pub struct Plan {
     pub falls: bool,
 }
 
-// The known items of the records with the slots of their owners, in order.
-fn resolve_all(
+/// The known items of the records with the slots of their owners, in order.
+pub(crate) fn resolve_all(
     alloc: Global,
     resolver: &mut Resolver,
     records: &[WalRecord],

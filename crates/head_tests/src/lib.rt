@@ -41,6 +41,8 @@ mod deals;
 #[cfg(test)]
 mod device;
 #[cfg(test)]
+mod failing_writer;
+#[cfg(test)]
 mod full_heads;
 #[cfg(test)]
 mod gates;
@@ -72,6 +74,8 @@ mod raw_logs;
 mod references;
 #[cfg(test)]
 mod refused;
+#[cfg(test)]
+mod refused_heads;
 #[cfg(test)]
 mod replays;
 #[cfg(test)]

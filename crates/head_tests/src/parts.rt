@@ -13,8 +13,8 @@ use std::test::Fail;
 use wal_log::{Input, read_all};
 use wal_record::WalRecord;
 
-// The records of a log before its first damage.
-fn records_of(alloc: Global, input: &Input) -> Result<Vec<WalRecord>, AllocError> {
+/// The records of a log before its first damage.
+pub(crate) fn records_of(alloc: Global, input: &Input) -> Result<Vec<WalRecord>, AllocError> {
     let reading = read_all(alloc, input)?;
     let mut records = Vec::new(alloc);
     for placed in reading.records.into_vec() {

@@ -1,0 +1,88 @@
+//! A device that fails under an append, behind each number of bytes.
+
+use crate::appends::{THREE_AND_ONE, first_bytes, open, push_call};
+use crate::device::Device;
+use crate::live_views::views;
+use head_core::replay_serial;
+use head_live::Live;
+use hw_bytes::Items;
+use std::alloc::{AllocError, Global};
+use std::process::Abort;
+use std::test::Fail;
+use wal_log::{Damage, Input, LogFault, Place, Segment};
+use wal_page::FaultKind;
+
+// The offset of the second record.
+const SECOND: usize = 25;
+
+// What replay is to find in the first bytes of the two records: how many records of series, and where a record is torn.
+fn cut(length: usize) -> (u64, Option<u64>) {
+    match length {
+        0 => (0, None),
+        SECOND => (1, None),
+        _ if length < SECOND => (0, Some(0)),
+        _ => (1, Some(SECOND as u64)),
+    }
+}
+
+// Replays a segment of these bytes.
+fn check_replay(rt: &impl Abort, alloc: Global, taken: Vec<u8>) -> Result<(), Fail> {
+    let (series_records, torn) = cut(taken.len());
+    let mut segments = Vec::new(alloc);
+    segments.push(Segment {
+        number: 0,
+        bytes: Items::from_vec(taken),
+    })?;
+    let input = Input::new(None, segments).map_err(|_| AllocError)?;
+    let replayed = replay_serial(alloc, &input)?;
+    let damage = torn.map(|offset| Damage {
+        place: Place {
+            in_checkpoint: false,
+            file: 0,
+            offset,
+        },
+        kind: FaultKind::Torn,
+    });
+    assert_eq!(rt; replayed.damage, damage);
+    assert_eq!(rt; replayed.head.counts().series_records, series_records);
+    Ok(())
+}
+
+// Looks at what a failed append left: the head, the bytes that the device took, and a writer that goes on failing.
+fn check_left(rt: &impl Abort, alloc: Global, live: Live<Device>, room: usize) -> Result<(), Fail> {
+    assert_eq!(rt;
+        views(alloc, live.head())?.as_str(),
+        "0 0 0 0 Some(1) None 0"
+    );
+    let (_head, mut log) = live.into_inner();
+    match log.next_segment(Device::new(alloc, usize::MAX)) {
+        Ok(_) => assert!(rt; false, "a failed writer went on"),
+        Err((next, fault)) => {
+            assert_eq!(rt; fault, LogFault::Failed);
+            assert_eq!(rt; next.taken.len(), 0);
+        }
+    }
+    let taken = log.into_inner().taken;
+    let wanted = first_bytes(alloc, room)?;
+    let mut found = String::new(alloc);
+    for byte in &taken {
+        write!(found, "{byte:02X}")?;
+    }
+    assert_eq!(rt; found, wanted);
+    check_replay(rt, alloc, taken)
+}
+
+#[test]
+fn failing_writer(rt: HostRuntime) -> Result<(), Fail> {
+    for room in 0..69 {
+        let case = THREE_AND_ONE.with_room(room);
+        let mut live = open(rt.alloc(), &case)?;
+        let mut text = String::new(rt.alloc());
+        for rows in case.calls() {
+            push_call(&mut text, rt.alloc(), &mut live, rows)?;
+        }
+        assert_eq!(&rt; text.as_str(), "Write 0 Failed 0 ", "room for {room}");
+        check_left(&rt, rt.alloc(), live, room)?;
+    }
+    Ok(())
+}
