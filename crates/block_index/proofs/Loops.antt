@@ -1,6 +1,5 @@
 -- Reading fields one after the other, as a loop does.
-use Rattle.std.proofs.Common.{◌≡◌, ℕ, zero, suc, length, take, Some, ◌-◌, ◌+◌, ◌≤◌, ◌<◌, List, [], ◌∷◌, ◌++◌, Result, Ok, Err, refl, sym, ap, subst, ◌∙◌, append_assoc, arith}
-use Rattle.std.specs.Prelude.{slice_get}
+use Rattle.std.proofs.Common.{◌≡◌, ℕ, zero, suc, length, ◌-◌, ◌+◌, ◌≤◌, ◌<◌, List, [], ◌∷◌, ◌++◌, Result, Ok, Err, refl, sym, ap, subst, ◌∙◌, append_assoc, arith}
 use Rattle.std.proofs.lemmas.List.{append-nil, nil_from_length}
 use Rattle.block_index.specs.declared.fault.ReadFault.{ReadFault}
 use Rattle.block_index.specs.declared.fault.ReadFault.TheVariants as faults
@@ -100,10 +99,3 @@ element_ends {X} element front count i bytes total le so_far =
     let k : count - i ≡ 0 = omega arith in
     let one : with_items front (elements element (count - i) bytes) ≡ Ok front = rw k (ap (λ (ys : List X). Ok ys) (append-nil front)) in
     sym so_far ∙ one
-
-pub take_more : {A : Type 0} (xs : List A) (i : ℕ) (x : A) → slice_get xs i ≡ Some x → take (i + 1) xs ≡ take i xs ++ x ∷ []
-take_more {A = A} xs i x h = subst (λ n. take n xs ≡ take i xs ++ x ∷ []) (let k : suc i ≡ i + 1 = omega arith in k) (by xs i h) where
-  by : (ys : List A) (j : ℕ) → slice_get ys j ≡ Some x → take (suc j) ys ≡ take j ys ++ x ∷ []
-  by [] j h = cc
-  by (y ∷ ys) zero h = let k : y ≡ x = cc in ap (λ z. z ∷ []) k
-  by (y ∷ ys) (suc j) h = ap (λ zs. y ∷ zs) (by ys j h)

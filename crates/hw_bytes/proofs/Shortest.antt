@@ -27,14 +27,14 @@ uvarint_in-more k n h = rw (le-ltb n 128 h) refl
 
 -- ---- the loop that writes them
 
--- so many groups are written, and the rest of the number makes the others
-pub record Begun (len rest : ℕ) (spelled all : List ℕ) : Type 0 where
+-- `len` groups are written, and the rest of the number gives the others
+pub record GroupsPut (len rest : ℕ) (spelled all : List ℕ) : Type 0 where
   pub short : len ≤ 9
   pub small : rest < 2 * 128 ^ (9 - len)
   pub parts : take len spelled ++ uvarint_in (9 - len) rest ≡ all
   pub long : length spelled ≡ 10
 
-pub begun-none : (n : ℕ) (spelled : List ℕ) → n < 2 ^ 64 → length spelled ≡ 10 → Begun 0 n spelled (uvarint n)
+pub begun-none : (n : ℕ) (spelled : List ℕ) → n < 2 ^ 64 → length spelled ≡ 10 → GroupsPut 0 n spelled (uvarint n)
 unfolding uvarint
 begun-none n spelled h l = record { short = omega arith; small = omega (arith, h); parts = refl; long = l }
 
@@ -45,7 +45,7 @@ below_last len rest short small large = by_left (9 - len) refl
     by_left zero e = absurd (let two : rest < 2 * 128 ^ 0 = subst (λ (k : ℕ). rest < 2 * 128 ^ k) e small in omega (arith, two, large))
     by_left (suc k) e = omega (arith, e)
 
-pub begun-more : (len rest : ℕ) (spelled more all : List ℕ) → Begun len rest spelled all → 128 ≤ rest → more ≡ set spelled len (rest % 128 + 128) → Begun (len + 1) (rest / 128) more all
+pub begun-more : (len rest : ℕ) (spelled more all : List ℕ) → GroupsPut len rest spelled all → 128 ≤ rest → more ≡ set spelled len (rest % 128 + 128) → GroupsPut (len + 1) (rest / 128) more all
 begun-more len rest spelled more all s large is =
     let below : len < 9 = below_last len rest s.short s.small large in
     let left : 9 - len ≡ suc (9 - (len + 1)) = omega (arith, below) in
@@ -59,7 +59,7 @@ begun-more len rest spelled more all s large is =
       long = ap length is ∙ length-set spelled len b ∙ s.long;
     }
 
-pub begun-last : (len rest : ℕ) (spelled more all : List ℕ) → Begun len rest spelled all → rest < 128 → more ≡ set spelled len rest → take (len + 1) more ≡ all
+pub begun-last : (len rest : ℕ) (spelled more all : List ℕ) → GroupsPut len rest spelled all → rest < 128 → more ≡ set spelled len rest → take (len + 1) more ≡ all
 begun-last len rest spelled more all s small is =
     ap (take (len + 1)) is ∙ take_more_set spelled len rest (omega (arith, s.long, s.short)) ∙ ap (λ (t : List ℕ). take len spelled ++ t) (sym (uvarint_in-last (9 - len) rest small)) ∙ s.parts
 

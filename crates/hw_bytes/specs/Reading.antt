@@ -1,5 +1,5 @@
--- What stands at the front of some bytes, and how many of them it takes. Only private functions and proofs cite this
--- file: the public contracts say the same by the spellings themselves.
+-- The value at the front of some bytes, with its length, by functions. Only private functions and proofs cite this file:
+-- public contracts speak of the spellings (`IsAt`, `IsNowhere`).
 use Rattle.std.specs.Prelude.{ℕ, zero, suc, ◌+◌, ◌/◌, ◌%◌, ◌==◌, ◌^◌, nat_lt, if◌then◌else◌, ℤ, pos, negsuc, List, [], ◌∷◌, length, take, drop, Option, Some, None}
 use Rattle.std.specs.Option.{option_map}
 use Rattle.hw_bytes.specs.Numbers.{groups}
@@ -9,7 +9,7 @@ abbrev pub ◌>>=◌ : {A B : Type 0} → Option A → (A → Option B) → Opti
 None >>= f = None
 (Some x) >>= f = f x
 
--- how many bytes there are up to the first one below 128, where it is among the first k
+-- the number of bytes up to and including the first below 128, if it is one of the first k
 unfoldable pub end_at : ℕ → List ℕ → Option ℕ
 end_at zero bytes = None
 end_at (suc k) [] = None

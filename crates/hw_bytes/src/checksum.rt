@@ -1,4 +1,4 @@
-//! CRC-32C by eight tables.
+//! CRC-32C, eight bytes at a time, by eight tables.
 
 ghost use Rattle.std.specs.Prelude.{◌≡◌, ◌<◌, ◌+◌, ◌*◌, length, bit_xor};
 ghost use Rattle.std.specs.List.{fold};
@@ -6,7 +6,7 @@ ghost use Rattle.hw_bytes.specs.Checksum.{crc32c as crc32c_of, divided_times, wi
 
 use crate::table::TABLES;
 
-// What the steps of k + 1 bytes leave of a byte.
+// Returns what is left of a byte after the division steps of k + 1 bytes.
 fn entry(k: usize, byte: u32) -> u32
     requires place { k < 8 }
     requires byte { byte < 256 }
@@ -23,7 +23,7 @@ fn low(byte: u8, bits: u32) -> u32
     bits ^ u32::from(byte)
 }
 
-// Eight bytes at once.
+// Returns the remainder after eight more bytes.
 fn eight(remainder: u32, bytes: &[u8]) -> u32
     requires { length bytes.now ≡ 8 }
     ensures { result ≡ fold with_byte remainder bytes.now }
@@ -37,7 +37,7 @@ fn eight(remainder: u32, bytes: &[u8]) -> u32
     first ^ entry(7, low(bytes[0], remainder & 0xFF))
 }
 
-/// The CRC-32C of the bytes.
+/// Returns the CRC-32C (Castagnoli) of the bytes.
 pub fn crc32c(bytes: &[u8]) -> u32
     ensures { result ≡ crc32c_of bytes.now }
 {

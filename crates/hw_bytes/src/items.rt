@@ -1,11 +1,11 @@
-//! A list that contracts see as a list.
+//! A `Vec` that contracts see as a plain list.
 
 ghost use Rattle.std.specs.Prelude.{◌≡◌, ◌↔◌, IsTrue, List, [], length};
 
 use std::marker::Model;
 
-/// A `Vec` that contracts see as the list of its items. Public fields have it, so that a clause about a struct speaks
-/// of plain lists. It is made of a `Vec` and gives it back without a copy.
+/// A `Vec` that contracts see as the list of its items. Public fields have this type, so that clauses about a struct
+/// speak of plain lists. Conversions from and to `Vec` don't copy.
 #[derive(Debug, Drop)]
 pub struct Items<T> {
     items: Vec<T>,
@@ -20,35 +20,35 @@ impl<T> Model for Items<T> {
 }
 
 impl<T> Items<T> {
-    /// The items, without a copy.
+    /// Wraps a `Vec`, without a copy.
     pub fn from_vec(items: Vec<T>) -> Items<T>
         ensures { result ≡ items.items }
     {
         Items { items }
     }
 
-    /// The items again, without a copy.
+    /// Returns the `Vec`, without a copy.
     pub fn into_vec(self) -> Vec<T>
         ensures { result.items ≡ self }
     {
         self.items
     }
 
-    /// The items, lent.
+    /// Borrows the items.
     pub fn as_slice(&self) -> &[T]
         ensures { result.now ≡ self.now }
     {
         self.items.as_slice()
     }
 
-    /// How many items there are.
+    /// Returns the number of items.
     pub fn len(&self) -> usize
         ensures { result ≡ length self.now }
     {
         self.items.len()
     }
 
-    /// Whether there is no item.
+    /// Returns whether there are no items.
     pub fn is_empty(&self) -> bool
         ensures { IsTrue result ↔ (self.now ≡ []) }
     {

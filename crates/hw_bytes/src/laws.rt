@@ -7,8 +7,8 @@ ghost use Rattle.hw_bytes.specs.Checksum.{crc32c};
 ghost use Rattle.hw_bytes.specs.Numbers.{IsFixed, IsUvarint, IsVarint, IsText};
 ghost use Rattle.hw_bytes.specs.Writing.{IsShortest, big_bytes, uvarint, varint, text};
 
-/// Bytes begin with at most one spelling of each form, and that one says one thing: so each reader below answers *the*
-/// spelling at the front.
+/// Proves that bytes begin with at most one spelling of each form, and that it spells one value: so what a reader of
+/// this crate returns is *the* spelling at the front.
 pub fn one_spelling()
     ensures fixed { (width : ℕ) → 0 < width → IsCode (IsFixed width) }
     ensures uvarint { IsCode IsUvarint }
@@ -16,8 +16,8 @@ pub fn one_spelling()
     ensures text { IsCode IsText }
 {}
 
-/// What is written for a number, of fixed width or not, for a signed one, and for a text spells it, and there is no other spelling
-/// as short.
+/// Proves of each form (a number of fixed width, a uvarint, a varint, a text) that what is written is a spelling, and
+/// that no other spelling is as short.
 pub fn shortest_spelling()
     ensures fixed { (width n : ℕ) → n < 256 ^ width → IsShortest (IsFixed width) (big_bytes width n) n }
     ensures uvarint { (n : ℕ) → n < 2 ^ 64 → IsShortest IsUvarint (uvarint n) n }
@@ -25,7 +25,7 @@ pub fn shortest_spelling()
     ensures text { (bytes : List ℕ) → IsBytes bytes → length bytes < 2 ^ 64 → IsShortest IsText (text bytes) bytes }
 {}
 
-/// A checksum has 32 bits.
+/// Proves that a checksum has 32 bits.
 pub fn checksum_fits()
     ensures { (bytes : List ℕ) → IsBytes bytes → crc32c bytes < 2 ^ 32 }
 {}

@@ -1,8 +1,8 @@
-//! The bytes of the log's formats: its checksum, its numbers and texts, and the list type of public fields.
+//! The bytes of the log's formats: the checksum, numbers, texts, and the list type of public fields.
 //!
-//! Every reader takes any bytes at all, allocates nothing, and says by its contract which spelling it found, or that
-//! there is none. Every writer puts the shortest spelling behind some bytes, or leaves them as they were where memory runs
-//! out. Nothing here knows of pages or records.
+//! Readers accept any bytes, allocate nothing, and return the spelling at the front, or `None` if there is none. Writers
+//! append the shortest spelling; if memory runs out they return an error and leave the bytes unchanged. Nothing here
+//! knows of pages or records.
 #![tactic(auto)]
 
 mod checksum;

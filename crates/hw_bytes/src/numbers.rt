@@ -1,4 +1,4 @@
-//! Numbers and texts at the front of some bytes.
+//! Readers of numbers and texts at the front of some bytes.
 
 ghost use Rattle.std.specs.Prelude.{◌≡◌, ◌<◌, ◌≤◌, ◌^◌, nat_lt, if◌then◌else◌, length, Some, None, IfSome, IfNone};
 ghost use Rattle.std.specs.Option.{option_map};
@@ -9,7 +9,7 @@ ghost use Rattle.hw_bytes.specs.Reading.{end_at, uvarint_at as uvarint_in_front,
 
 use byteorder::{BigEndian, ByteOrder};
 
-/// The big-endian number of two bytes at the front; `None` where there are fewer.
+/// Reads the big-endian number in the first two bytes. Returns `None` if there are fewer.
 pub fn be16_at(bytes: &[u8]) -> Option<u16>
     ensures found { IfSome result (λ n. IsAt (IsFixed 2) bytes.now n 2) }
     ensures value { IfSome result (λ n. n ≡ big_number 2 bytes.now) }
@@ -22,7 +22,7 @@ pub fn be16_at(bytes: &[u8]) -> Option<u16>
     Some(BigEndian::read_u16(bytes))
 }
 
-/// The big-endian number of four bytes at the front; `None` where there are fewer.
+/// Reads the big-endian number in the first four bytes. Returns `None` if there are fewer.
 pub fn be32_at(bytes: &[u8]) -> Option<u32>
     ensures found { IfSome result (λ n. IsAt (IsFixed 4) bytes.now n 4) }
     ensures value { IfSome result (λ n. n ≡ big_number 4 bytes.now) }
@@ -35,7 +35,7 @@ pub fn be32_at(bytes: &[u8]) -> Option<u32>
     Some(BigEndian::read_u32(bytes))
 }
 
-/// The big-endian number of eight bytes at the front; `None` where there are fewer.
+/// Reads the big-endian number in the first eight bytes. Returns `None` if there are fewer.
 pub fn be64_at(bytes: &[u8]) -> Option<u64>
     ensures found { IfSome result (λ n. IsAt (IsFixed 8) bytes.now n 8) }
     ensures value { IfSome result (λ n. n ≡ big_number 8 bytes.now) }
@@ -48,7 +48,7 @@ pub fn be64_at(bytes: &[u8]) -> Option<u64>
     Some(BigEndian::read_u64(bytes))
 }
 
-// How many bytes a number at the front takes, where it takes at most ten.
+// Returns the number of bytes up to and including the first below 128, if it is one of the first ten.
 fn uvarint_end(bytes: &[u8]) -> Option<usize>
     ensures exact { result ≡ end_at 10 bytes.now }
     ensures within { IfSome result (λ len. len ≤ length bytes.now) }
@@ -64,7 +64,7 @@ fn uvarint_end(bytes: &[u8]) -> Option<usize>
     None
 }
 
-// The number that groups of seven bits come to, the low one first, where it has 64 bits.
+// Joins groups of seven bits, the low one first. Returns `None` if the number exceeds 64 bits.
 fn grouped(bytes: &[u8]) -> Option<u64>
     ensures { result ≡ (if nat_lt (groups bytes.now) (2 ^ 64) then Some (groups bytes.now) else None) }
 {
@@ -94,8 +94,8 @@ fn front_uvarint(bytes: &[u8]) -> Option<(u64, usize)>
     Some((value, len))
 }
 
-/// The uvarint at the front, and how many bytes it takes; `None` where no uvarint is a prefix of the bytes. Longer
-/// spellings than need be are read.
+/// Reads the uvarint at the front, and returns it with its length in bytes. Returns `None` if no prefix of the bytes is
+/// a uvarint. Accepts spellings that are longer than necessary.
 pub fn uvarint_at(bytes: &[u8]) -> Option<(u64, usize)>
     ensures found { IfSome result (λ found. IsAt IsUvarint bytes.now found.0 found.1) }
     ensures none { IfNone result (IsNowhere IsUvarint bytes.now) }
@@ -115,8 +115,8 @@ fn front_varint(bytes: &[u8]) -> Option<(i64, usize)>
     }
 }
 
-/// The varint at the front, a signed number, and how many bytes it takes; `None` where no varint is a prefix of the
-/// bytes.
+/// Reads the varint at the front, a signed number, and returns it with its length in bytes. Returns `None` if no prefix
+/// of the bytes is a varint.
 pub fn varint_at(bytes: &[u8]) -> Option<(i64, usize)>
     ensures found { IfSome result (λ found. IsAt IsVarint bytes.now found.0 found.1) }
     ensures none { IfNone result (IsNowhere IsVarint bytes.now) }
@@ -137,8 +137,8 @@ fn front_text(bytes: &[u8]) -> Option<(&[u8], usize)>
     Some((&rest[..len], start + len))
 }
 
-/// The text at the front, and how many bytes it takes with its length; `None` where no text is a prefix of the bytes.
-/// The text is lent out of the bytes.
+/// Reads the text at the front, a uvarint length and that many bytes. Returns the text, borrowed from the bytes, and how
+/// many bytes it takes with its length; `None` if no prefix of the bytes is a text.
 pub fn text_at(bytes: &[u8]) -> Option<(&[u8], usize)>
     ensures found { IfSome result (λ found. IsAt IsText bytes.now found.0.now found.1) }
     ensures none { IfNone result (IsNowhere IsText bytes.now) }

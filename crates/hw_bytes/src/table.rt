@@ -1,4 +1,4 @@
-//! The division of each byte by the polynomial, from each of eight places.
+//! Tables of CRC-32C: the remainder of each byte at each of eight places.
 
 pub(crate) const TABLES: [[u32; 256]; 8] = [
     [

@@ -1,4 +1,4 @@
-//! Numbers and texts put behind some bytes. Where memory runs out the bytes are as they were.
+//! Writers of numbers and texts. Each appends to some bytes, and leaves them unchanged if out of memory.
 
 ghost use Rattle.std.specs.Prelude.{◌≡◌, ◌++◌, OnOk, OnErr};
 ghost use Rattle.byteorder.specs.Endian.{big_bytes};
@@ -7,7 +7,7 @@ ghost use Rattle.hw_bytes.specs.Writing.{uvarint, varint, text as text_of};
 
 use std::alloc::AllocError;
 
-/// Puts the number behind the bytes, big-endian in two bytes.
+/// Appends the number in two bytes, big-endian. Unchanged if out of memory.
 pub fn put_be16(bytes: &mut Vec<u8>, number: u16) -> Result<(), AllocError>
     ensures put { OnOk result (bytes.new.items ≡ bytes.old.items ++ big_bytes 2 number) }
     ensures refused { OnErr result (bytes.new.items ≡ bytes.old.items) }
@@ -16,7 +16,7 @@ pub fn put_be16(bytes: &mut Vec<u8>, number: u16) -> Result<(), AllocError>
     bytes.extend_from_slice(&spelled)
 }
 
-/// Puts the number behind the bytes, big-endian in four bytes.
+/// Appends the number in four bytes, big-endian. Unchanged if out of memory.
 pub fn put_be32(bytes: &mut Vec<u8>, number: u32) -> Result<(), AllocError>
     ensures put { OnOk result (bytes.new.items ≡ bytes.old.items ++ big_bytes 4 number) }
     ensures refused { OnErr result (bytes.new.items ≡ bytes.old.items) }
@@ -25,7 +25,7 @@ pub fn put_be32(bytes: &mut Vec<u8>, number: u32) -> Result<(), AllocError>
     bytes.extend_from_slice(&spelled)
 }
 
-/// Puts the number behind the bytes, big-endian in eight bytes.
+/// Appends the number in eight bytes, big-endian. Unchanged if out of memory.
 pub fn put_be64(bytes: &mut Vec<u8>, number: u64) -> Result<(), AllocError>
     ensures put { OnOk result (bytes.new.items ≡ bytes.old.items ++ big_bytes 8 number) }
     ensures refused { OnErr result (bytes.new.items ≡ bytes.old.items) }
@@ -34,7 +34,7 @@ pub fn put_be64(bytes: &mut Vec<u8>, number: u64) -> Result<(), AllocError>
     bytes.extend_from_slice(&spelled)
 }
 
-/// Puts the shortest uvarint of the number behind the bytes, one to ten bytes.
+/// Appends the shortest uvarint of the number, one to ten bytes. Unchanged if out of memory.
 pub fn put_uvarint(bytes: &mut Vec<u8>, number: u64) -> Result<(), AllocError>
     ensures put { OnOk result (bytes.new.items ≡ bytes.old.items ++ uvarint number) }
     ensures refused { OnErr result (bytes.new.items ≡ bytes.old.items) }
@@ -51,7 +51,7 @@ pub fn put_uvarint(bytes: &mut Vec<u8>, number: u64) -> Result<(), AllocError>
     bytes.extend_from_slice(&spelled[..len + 1])
 }
 
-// 2n for n from 0 on, and -2n - 1 for n below 0.
+// Returns 2n for n >= 0, and -2n - 1 for n < 0.
 fn zigzag(number: i64) -> u64
     ensures { result ≡ zigzag_of number }
 {
@@ -62,7 +62,7 @@ fn zigzag(number: i64) -> u64
     }
 }
 
-/// Puts the shortest varint of the signed number behind the bytes, one to ten bytes.
+/// Appends the shortest varint of the signed number, one to ten bytes. Unchanged if out of memory.
 pub fn put_varint(bytes: &mut Vec<u8>, number: i64) -> Result<(), AllocError>
     ensures put { OnOk result (bytes.new.items ≡ bytes.old.items ++ varint number) }
     ensures refused { OnErr result (bytes.new.items ≡ bytes.old.items) }
@@ -70,7 +70,7 @@ pub fn put_varint(bytes: &mut Vec<u8>, number: i64) -> Result<(), AllocError>
     put_uvarint(bytes, zigzag(number))
 }
 
-/// Puts the text behind the bytes: the shortest uvarint of its length, and then itself.
+/// Appends the text: the shortest uvarint of its length, and then its bytes. Unchanged if out of memory.
 pub fn put_text(bytes: &mut Vec<u8>, text: &[u8]) -> Result<(), AllocError>
     ensures put { OnOk result (bytes.new.items ≡ bytes.old.items ++ text_of text.now) }
     ensures refused { OnErr result (bytes.new.items ≡ bytes.old.items) }

@@ -3,7 +3,7 @@ use Rattle.std.proofs.lemmas.List.{take_all, map-append}
 use Rattle.wal_record.specs.declared.labels.Label.{Label}
 use Rattle.wal_record.specs.Labels.{label}
 use Rattle.block_index.specs.Lent.{row_label_of}
-use Rattle.block_index.proofs.Loops.{take_more}
+use Rattle.hw_bytes.proofs.Places.{take_more}
 use Rattle.block_index.proofs.Gathered.{gathered_more}
 use Rattle.block_index.proofs.gathering.push_row_labels.Goals as goal
 

@@ -5,7 +5,7 @@ use Rattle.hw_bytes.proofs.Lists.{flat_map-push}
 use Rattle.wal_record.specs.Labels.{label}
 use Rattle.block_index.specs.Gives.{nows}
 use Rattle.block_index.specs.Index.{label_refs}
-use Rattle.block_index.proofs.Loops.{take_more}
+use Rattle.hw_bytes.proofs.Places.{take_more}
 use Rattle.block_index.proofs.writer.put_labels.Goals as goal
 
 pub loop-i-preserved : goal.loop-i-preserved
