@@ -76,14 +76,14 @@ pub record AreLeft (before : Option ℤ) (rest : List ℕ) (xs ss : List Sample)
   pub fit : All IsFit others
   pub text : rest ≡ samples_text before others
 
-pub record Begun (count : ℕ) (bytes : List ℕ) (ss : List Sample) (before : Option ℤ) (rest : List ℕ) : Type 0 where
+pub record ReadSoFar (count : ℕ) (bytes : List ℕ) (ss : List Sample) (before : Option ℤ) (rest : List ℕ) : Type 0 where
   pub few : length ss ≤ count
   pub last : BeforeFits before
   pub rises : (others : List Sample) → RisesPast before others → RisesPast None (ss ++ others)
   pub fit : All IsFit ss
   pub left : (xs : List Sample) → HaveText count bytes xs → AreLeft before rest xs ss
 
-pub begun_none : (count : ℕ) (bytes : List ℕ) → Begun count bytes [] None bytes
+pub begun_none : (count : ℕ) (bytes : List ℕ) → ReadSoFar count bytes [] None bytes
 begun_none count bytes = record {
   few = omega arith;
   last = tt;
@@ -112,8 +112,8 @@ one_more before rest more xs ss s len b at m lt h = by h.others h.is h.rises h.f
           text = m ∙ next.1 ∙ ap (λ (u : Sample). samples_text (Some u.time) others) (sym next.0);
         }
 
-pub begun_more : (count : ℕ) (bytes : List ℕ) (ss : List Sample) (before : Option ℤ) (rest more : List ℕ) (s : Sample) (len : ℕ) → Begun count bytes ss before rest → length ss < count
-    → IsAt (IsSample before) rest s len → more ≡ drop len rest → Begun count bytes (ss ++ s ∷ []) (Some s.time) more
+pub begun_more : (count : ℕ) (bytes : List ℕ) (ss : List Sample) (before : Option ℤ) (rest more : List ℕ) (s : Sample) (len : ℕ) → ReadSoFar count bytes ss before rest → length ss < count
+    → IsAt (IsSample before) rest s len → more ≡ drop len rest → ReadSoFar count bytes (ss ++ s ∷ []) (Some s.time) more
 begun_more count bytes ss before rest more s len b lt at m =
     let time = time_fits before at.spelled.time_bytes s.time at.spelled.time in
     record {
@@ -124,15 +124,15 @@ begun_more count bytes ss before rest more s len b lt at m =
       left = λ xs h. one_more before rest more xs ss s len b.last at m (omega (arith, lt, h.many)) (b.left xs h);
     }
 
--- the same, where the time is written as the code passes it on
-pub begun_next : (count : ℕ) (bytes : List ℕ) (ss all : List Sample) (before : Option ℤ) (rest more : List ℕ) (s : Sample) (len : ℕ) → Begun count bytes ss before rest → length ss < count
-    → IsAt (IsSample before) rest s len → more ≡ drop len rest → all ≡ ss ++ s ∷ [] → Begun count bytes all (Some (cast_signed w64 (cast_unsigned w64 s.time))) more
+-- `begun_more`, with the time as the code passes it on
+pub begun_next : (count : ℕ) (bytes : List ℕ) (ss all : List Sample) (before : Option ℤ) (rest more : List ℕ) (s : Sample) (len : ℕ) → ReadSoFar count bytes ss before rest → length ss < count
+    → IsAt (IsSample before) rest s len → more ≡ drop len rest → all ≡ ss ++ s ∷ [] → ReadSoFar count bytes all (Some (cast_signed w64 (cast_unsigned w64 s.time))) more
 begun_next count bytes ss all before rest more s len b lt at m is =
     let time = to_z-of_z w64 s.time (time_fits before at.spelled.time_bytes s.time at.spelled.time) in
-    subst (λ (t : ℤ). Begun count bytes all (Some t) more) (sym time)
-    (subst (λ (xs : List Sample). Begun count bytes xs (Some s.time) more) (sym is) (begun_more count bytes ss before rest more s len b lt at m))
+    subst (λ (t : ℤ). ReadSoFar count bytes all (Some t) more) (sym time)
+    (subst (λ (xs : List Sample). ReadSoFar count bytes xs (Some s.time) more) (sym is) (begun_more count bytes ss before rest more s len b lt at m))
 
-pub begun_bad : (count : ℕ) (bytes : List ℕ) (ss : List Sample) (before : Option ℤ) (rest : List ℕ) → Begun count bytes ss before rest → length ss < count → IsNowhere (IsSample before) rest
+pub begun_bad : (count : ℕ) (bytes : List ℕ) (ss : List Sample) (before : Option ℤ) (rest : List ℕ) → ReadSoFar count bytes ss before rest → length ss < count → IsNowhere (IsSample before) rest
     → (xs : List Sample) → HaveText count bytes xs → ⊥
 begun_bad count bytes ss before rest b lt none xs h = (let l = b.left xs h in by l.others l.is l.rises l.fit l.text)
   where
@@ -140,7 +140,7 @@ begun_bad count bytes ss before rest b lt none xs h = (let l = b.left xs h in by
     by [] is r f e = omega (arith, lt, h.many, ap length is, length-append ss [])
     by (t ∷ others) is r f e = none (sample_text before t) (samples_text (Some t.time) others) t (sample_spells before t b.last r.0 (All-head IsFit t others f)) e
 
-pub begun_all : (count : ℕ) (bytes : List ℕ) (ss : List Sample) (before : Option ℤ) (rest : List ℕ) → Begun count bytes ss before rest → count ≤ length ss → AreRead count bytes ss
+pub begun_all : (count : ℕ) (bytes : List ℕ) (ss : List Sample) (before : Option ℤ) (rest : List ℕ) → ReadSoFar count bytes ss before rest → count ≤ length ss → AreRead count bytes ss
 begun_all count bytes ss before rest b all = record {
   many = omega (arith, all, b.few);
   rises = rises_from None ss (subst (RisesPast None) (append-nil ss) (b.rises [] tt));

@@ -1,4 +1,4 @@
--- Chunks: the text of some samples, and the chunks that samples are cut into.
+-- Chunks: the text of some samples, and how samples are cut into chunks.
 use Rattle.std.specs.Prelude.{◌≡◌, ℕ, zero, suc, ◌<◌, ◌≤◌, ℤ, pos, ◌-ℤ◌, unsigned_abs, FitsSigned, List, [], ◌∷◌, ◌++◌, length, map, take, drop, Option, Some, None}
 use Rattle.std.specs.Int.{cast_unsigned, w64}
 use Rattle.std.specs.List.{All, flat_map}
@@ -7,23 +7,23 @@ use Rattle.head_column.specs.declared.items.Sample.{Sample}
 use Rattle.head_column.specs.declared.chunk.Chunk.{Chunk}
 use Rattle.head_column.specs.Samples.{Rises}
 
--- the numbers of the sample have 64 bits
+-- the numbers of the sample fit in 64 bits
 pub record IsFit (s : Sample) : Type 0 where
   pub time : FitsSigned w64 s.time
   pub value : FitsSigned w64 s.value
 
--- how many samples a chunk has, but for the last one of an hour, which may have fewer
+-- the number of samples of a chunk; the last one of an hour may have fewer
 abbrev pub chunk_samples : ℕ
 chunk_samples = 120
 
--- some samples, no more than a chunk has, each past the one before it
+-- 1 to `chunk_samples` samples, with ascending times
 pub record IsChunk (samples : List Sample) : Type 0 where
   pub some : 0 < length samples
   pub few : length samples ≤ chunk_samples
   pub rises : Rises samples
   pub fit : All IsFit samples
 
--- a time: the first as a varint, each later one as the uvarint of the difference to the one before
+-- a time: the first one as a varint, each later one as the uvarint of the difference to the one before
 abbrev pub time_text : Option ℤ → ℤ → List ℕ
 time_text None time = varint time
 time_text (Some before) time = uvarint (unsigned_abs (time -ℤ before))
@@ -32,25 +32,26 @@ time_text (Some before) time = uvarint (unsigned_abs (time -ℤ before))
 abbrev pub value_text : ℤ → List ℕ
 value_text value = big_bytes 8 (cast_unsigned w64 value)
 
+-- a sample: its time, and its value
 abbrev pub sample_text : Option ℤ → Sample → List ℕ
 sample_text before s = time_text before s.time ++ value_text s.value
 
--- samples, behind one at the time before if there is one
+-- samples, of which the first is at the front, or comes next after the time `before`
 abbrev pub samples_text : Option ℤ → List Sample → List ℕ
 samples_text before [] = []
 samples_text before (s ∷ rest) = sample_text before s ++ samples_text (Some s.time) rest
 
--- The text of a chunk: how many samples there are, in two bytes, and the samples.
+-- the text of a chunk: the number of samples in two bytes, and the samples
 abbrev pub chunk_text : List Sample → List ℕ
 chunk_text samples = big_bytes 2 (length samples) ++ samples_text None samples
 
--- at most so many parts of n elements, the last one perhaps shorter
+-- the first k parts of n elements, the last part perhaps shorter
 abbrev pub parts_in : {A : Type 0} → ℕ → ℕ → List A → List (List A)
 parts_in zero n xs = []
 parts_in (suc k) n [] = []
 parts_in (suc k) n (x ∷ xs) = take n (x ∷ xs) ∷ parts_in k n (drop n (x ∷ xs))
 
--- a list in parts of n elements, the last one perhaps shorter: the only list of parts that is `ArePartsOf`
+-- a list in parts of n elements, the last part perhaps shorter: the only list of parts that is `ArePartsOf`
 abbrev pub parts : {A : Type 0} → ℕ → List A → List (List A)
 parts n xs = parts_in (length xs) n xs
 
@@ -77,6 +78,6 @@ last_time (s ∷ t ∷ rest) = last_time (t ∷ rest)
 abbrev pub chunk_of : List Sample → Chunk
 chunk_of samples = record { min_time = first_time samples; max_time = last_time samples; count = length samples; text = chunk_text samples }
 
--- The chunks of some samples: 120 samples each, the last one perhaps with fewer.
+-- the chunks of some samples: `chunk_samples` to a chunk, perhaps fewer in the last
 abbrev pub chunks_of : List Sample → List Chunk
 chunks_of samples = map chunk_of (parts chunk_samples samples)

@@ -1,4 +1,4 @@
--- What is kept of one series, and how an item changes it.
+-- The history of a series, and how an item changes it.
 use Rattle.std.specs.Prelude.{◌≡◌, ℕ, ℤ, Bool, List, [], ◌∷◌, ◌++◌, Option, map, int_le, if◌then◌else◌}
 use Rattle.std.specs.List.{list_any, fold}
 use Rattle.head_column.specs.declared.items.Sample.{Sample}
@@ -12,17 +12,17 @@ use Rattle.head_column.specs.Runs.{AreRunsOf}
 use Rattle.head_column.specs.Merging.{with_run}
 use Rattle.head_column.specs.Items.{samples_of, is_hidden}
 
--- the accepted samples, in order, and the runs of the hidden times
+-- what is kept of a series: the accepted samples, in order, and the runs of the hidden times
 pub record History : Type 0 where
   pub samples : List Sample
   pub hidden : List Run
 
--- The items make this history: its samples are those that are accepted among them, and its runs are the maximal runs of the times that they hide.
+-- The items make this history: its samples are the accepted ones, and its runs are the maximal runs of the hidden times.
 pub record IsHistoryOf (items : List Item) (h : History) : Type 0 where
   pub samples : h.samples ≡ samples_of items
   pub hidden : AreRunsOf (is_hidden items) h.hidden
 
--- no items
+-- the history of no items
 abbrev pub no_history : History
 no_history = record { samples = []; hidden = [] }
 
@@ -30,25 +30,25 @@ no_history = record { samples = []; hidden = [] }
 abbrev pub latest : List Sample → Option ℤ
 latest samples = greatest (map (λ s. s.time) samples)
 
--- one of the samples has an equal or later time
+-- whether some sample has an equal or later time
 abbrev pub has_reached : List Sample → ℤ → Bool
 has_reached samples t = list_any (λ s. int_le t s.time) samples
 
--- the history after one item more
+-- the history after one more item
 abbrev pub history_after : History → Item → History
 history_after h (item.Sample s) = if has_reached h.samples s.time then h else record { samples = h.samples ++ s ∷ []; hidden = h.hidden }
 history_after h (item.Stone r) = if int_le r.min_time r.max_time then record { samples = h.samples; hidden = with_run h.hidden r } else h
 
--- what becomes of an item behind this history
+-- the outcome of an item after this history
 abbrev pub history_outcome : History → Item → Outcome
 history_outcome h (item.Sample s) = if has_reached h.samples s.time then Stale else Accepted
 history_outcome h (item.Stone r) = if int_le r.min_time r.max_time then Hidden else EmptyStone
 
--- the history that the items make, item by item
+-- the history of the items, made item by item
 abbrev pub history_of : List Item → History
 history_of items = fold history_after no_history items
 
--- what contracts see of a column: its history, and how many items it takes without more memory
+-- what contracts see of a column: its history, and a number of items that it takes without allocating
 pub record ColumnValue : Type 0 where
   pub history : History
   pub spare : ℕ

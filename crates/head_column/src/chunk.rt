@@ -1,32 +1,33 @@
-//! Chunks of samples, and their texts.
+//! Chunks of samples.
 
 use hw_bytes::Items;
 use std::alloc::{AllocError, AllocFailed};
 use std::error::Error;
 use std::fmt;
 
-/// How many samples a chunk has, but for the last one of an hour, which may have fewer.
+/// The number of samples of a chunk. The last chunk of an hour may have fewer.
 pub const CHUNK_SAMPLES: usize = 120;
 
-/// A chunk: some samples in the order of their times, as a text.
+/// A chunk: samples of one series in the order of their times, encoded. A chunk of a block (chunks.md) has this data in a form
+/// of this project.
 #[derive(Debug, Drop)]
 pub struct Chunk {
     /// The time of the first sample, in milliseconds.
     pub min_time: i64,
     /// The time of the last sample, in milliseconds.
     pub max_time: i64,
-    /// How many samples there are, 1 to 120.
+    /// The number of samples, 1 to 120.
     pub count: usize,
-    /// The samples, as `encode_chunk` writes them.
+    /// The samples, as `encode_chunk` encodes them.
     pub text: Items<u8>,
 }
 
-/// Why the bytes of a chunk were not read.
+/// An error of `decode_chunk`.
 #[derive(Clone, Copy, Debug, PartialEq, Eq)]
 pub enum ChunkFault {
-    /// The bytes are not what `encode_chunk` writes.
+    /// The bytes are the text of no chunk.
     BadChunk,
-    /// Memory ran out.
+    /// Out of memory.
     Memory,
 }
 

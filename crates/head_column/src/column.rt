@@ -1,4 +1,4 @@
-//! One series, built item by item.
+//! A series, built item by item.
 
 ghost use Rattle.std.specs.Prelude.{◌≡◌, ◌+◌, ◌<◌, ◌≤◌, ◌∷◌, ◌++◌, [], ℕ, All, List, IfOk, IsOk, OnErr, OnOk, filter, length};
 ghost use Rattle.head_column.specs.declared.items.Item.{Item as AnItem};
@@ -18,7 +18,7 @@ use head_deal::Builder;
 use std::alloc::{AllocError, Global};
 use std::marker::Model;
 
-// The same sample: its numbers have 64 bits, as a proof learns where they are read.
+// Copies the sample. For proofs: its numbers fit in 64 bits.
 fn fit_copy(sample: &Sample) -> Sample
     ensures same { result ≡ sample.now }
     ensures fit { IsFit result }
@@ -29,17 +29,17 @@ fn fit_copy(sample: &Sample) -> Sample
     }
 }
 
-/// The accepted samples of one series, and the runs of its hidden times. Contracts see its history, and beside it a number,
-/// `spare`: so many items it takes for certain without more memory.
+/// A series: its accepted samples, and the runs of its hidden times. Contracts see these as its history, and `spare`, a number of
+/// items that it takes without allocating.
 #[derive(Debug)]
 pub struct Column {
     samples: Vec<Sample>,
     hidden: Vec<Run>,
-    // The greatest time of the samples. It stands here so that an item needs no look at the end of their list, which is far away.
+    // The greatest time of the samples, kept here so that an item needs no access to the end of their list.
     latest: Option<i64>,
 }
 
-// Written out: where another function lets go of a column, its proof has one call, and not a copy of this.
+// Written out, so that a function that drops one has a call in its proof, and not a copy of this body.
 impl Drop for Column {
     fn drop(self) {
         let Column {
@@ -69,7 +69,7 @@ impl Model for Column {
 }
 
 impl Column {
-    /// A series to which nothing came yet.
+    /// Makes a series without items.
     pub fn new(alloc: Global) -> Column
         ensures history { result.history ≡ no_history }
         ensures items { IsHistoryOf [] result.history }
@@ -81,21 +81,21 @@ impl Column {
         }
     }
 
-    /// How many samples were accepted.
+    /// Returns the number of accepted samples.
     pub fn len(&self) -> usize
         ensures { result ≡ length self.now.history.samples }
     {
         self.samples.len()
     }
 
-    /// The greatest time of the accepted samples, in milliseconds, or `None` if there are none.
+    /// Returns the greatest time of the accepted samples, in milliseconds. `None` if there are none.
     pub fn max_time(&self) -> Option<i64>
         ensures { result ≡ latest self.now.history.samples }
     {
         self.latest
     }
 
-    /// The runs of the hidden times: each has a time, they ascend, and between two of them lies a time that is not hidden.
+    /// Borrows the runs of the hidden times, ascending: no run is empty, and between two runs is a time that is not hidden.
     pub fn hidden(&self) -> &[Run]
         ensures runs { result.now ≡ self.now.history.hidden }
         ensures apart { AreApart result.now }
@@ -103,7 +103,7 @@ impl Column {
         self.hidden.as_slice()
     }
 
-    /// A copy of the accepted samples, in their order, in memory of its own. Each time is past the one before it.
+    /// Copies the accepted samples, in order: each time is greater than the one before. Returns an error if out of memory.
     pub fn samples(&self) -> Result<Vec<Sample>, AllocError>
         ensures samples { IfOk result (λ samples. samples.items ≡ self.now.history.samples) }
         ensures rises { IfOk result (λ samples. Rises samples.items) }
@@ -111,8 +111,8 @@ impl Column {
         Vec::from_slice(*self.samples.allocator(), self.samples_slice())
     }
 
-    /// The accepted samples of an hour in chunks, cut by 120 from the first one in it, the last chunk with fewer. By the last three
-    /// clauses a caller learns what holds of every column.
+    /// Encodes the accepted samples of an hour in chunks of 120, counted from the first sample in the hour; the last chunk may have
+    /// fewer. Returns an error if out of memory. The last three clauses hold of every column.
     pub fn chunks_in(&self, hour: Hour) -> Result<Vec<Chunk>, AllocError>
         ensures chunks { IfOk result (λ chunks. chunks.items ≡ chunks_of (filter (λ s. is_in_hour hour s.time) self.now.history.samples)) }
         ensures rises { Rises self.now.history.samples }
@@ -122,7 +122,7 @@ impl Column {
         cut_chunks(*self.samples.allocator(), self.samples_slice(), hour)
     }
 
-    /// The accepted samples, lent.
+    /// Borrows the accepted samples.
     pub(crate) fn samples_slice(&self) -> &[Sample]
         ensures samples { result.now ≡ self.now.history.samples }
         ensures rises { Rises result.now }
@@ -130,7 +130,8 @@ impl Column {
         self.samples.as_slice()
     }
 
-    /// Makes room for this many items, whatever they are. The history is the same on both answers, and no room is lost.
+    /// Allocates memory for this many more items of any kind. Returns an error if out of memory. In both cases the history is
+    /// unchanged, and `spare` is not less than before.
     pub fn reserve(&mut self, items: usize) -> Result<(), AllocError>
         ensures history { self.new.history ≡ self.old.history }
         ensures room { OnOk result (items ≤ self.new.spare) }
@@ -141,14 +142,14 @@ impl Column {
         Ok(())
     }
 
-    // Whether one of the samples has an equal or later time.
+    // Returns whether some sample has an equal or later time.
     fn has_reached(&self, time: i64) -> bool
         ensures { result ≡ has_reached self.now.history.samples time }
     {
         reaches(self.max_time(), time)
     }
 
-    // Takes one item, as `apply` does.
+    // Applies an item, as `apply` does.
     fn take(&mut self, item: &Item) -> Result<Outcome, AllocError>
         ensures changed { OnOk result (self.new.history ≡ history_after self.old.history item.now) }
         ensures told { IfOk result (λ told. told ≡ history_outcome self.old.history item.now) }
@@ -193,18 +194,19 @@ impl Builder for Column {
 
     ghost outcome = { history_outcome };
 
-    /// Takes one item. A stale sample and an empty deletion change nothing, and are never refused. A deletion costs no more than
-    /// the runs that there are. Memory is refused only where `spare` was 0, and the history is then unchanged.
+    /// Applies an item, and returns its outcome. A stale sample and an empty deletion change nothing and never fail. The time of a
+    /// deletion is linear in the number of runs. Returns an error if out of memory, only if `spare` was 0; the history is then
+    /// unchanged.
     fn apply(&mut self, item: &Item) -> Result<Outcome, AllocError>
         ensures changed { OnOk result (self.new.history ≡ history_after self.old.history item.now) }
         ensures told { IfOk result (λ told. told ≡ history_outcome self.old.history item.now) }
         ensures refused { OnErr result (self.new.history ≡ self.old.history) }
 
-        // What the items so far and this one make, and what becomes of this one.
+        // The history of the items so far and this one, and this one's outcome.
         ensures items { (items : List AnItem) → IsHistoryOf items self.old.history → OnOk result (IsHistoryOf (items ++ item.now ∷ []) self.new.history) }
         ensures verdict { (items : List AnItem) → IsHistoryOf items self.old.history → IfOk result (λ told. told ≡ outcome_of items item.now) }
 
-        // A stale sample and an empty deletion ask for no memory, and others only where there is no room.
+        // Stale samples and empty deletions need no memory, others only if nothing is spare.
         ensures stale { history_outcome self.old.history item.now ≡ Stale → IsOk result }
         ensures empty { history_outcome self.old.history item.now ≡ EmptyStone → IsOk result }
         ensures room { 0 < self.old.spare → IsOk result }

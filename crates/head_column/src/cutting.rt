@@ -1,4 +1,4 @@
-//! The chunks of an hour.
+//! Cutting the samples of an hour into chunks.
 
 ghost use Rattle.std.specs.Prelude.{◌≡◌, ◌<◌, ◌≤◌, true, false, filter, length, int_lt, IfOk};
 ghost use Rattle.std.specs.List.Sorted.{IsPartitionPoint};
@@ -13,14 +13,14 @@ use crate::items::Sample;
 use hw_bytes::Items;
 use std::alloc::{AllocError, Global};
 
-// Whether the sample is before hour k.
+// Returns whether the sample is before hour k.
 fn is_before(sample: &Sample, k: i64) -> bool
     ensures { result ≡ int_lt sample.now.time (hour_start k) }
 {
     Hour::of(sample.time).k() < k
 }
 
-// How many samples are before hour k.
+// Returns the number of samples before hour k.
 fn count_before(samples: &[Sample], k: i64) -> usize
     requires { Rises samples.now }
     ensures within { result ≤ length samples.now }
@@ -29,7 +29,7 @@ fn count_before(samples: &[Sample], k: i64) -> usize
     samples.partition_point(|sample| is_before(sample, k))
 }
 
-// The samples of the hour, lent: they stand together.
+// Borrows the samples of the hour, which are consecutive.
 fn samples_of(samples: &[Sample], hour: Hour) -> &[Sample]
     requires { Rises samples.now }
     ensures those { result.now ≡ filter (λ s. is_in_hour hour s.time) samples.now }
@@ -60,7 +60,7 @@ fn chunk_of(alloc: Global, samples: &[Sample]) -> Result<Chunk, AllocError>
     })
 }
 
-// The chunks of all these samples.
+// Encodes all these samples in chunks.
 fn cut_all(alloc: Global, samples: &[Sample]) -> Result<Vec<Chunk>, AllocError>
     requires { Rises samples.now }
     ensures { IfOk result (λ chunks. chunks.items ≡ chunks_of samples.now) }
@@ -75,7 +75,7 @@ fn cut_all(alloc: Global, samples: &[Sample]) -> Result<Vec<Chunk>, AllocError>
     Ok(chunks)
 }
 
-/// The samples of the hour in chunks, cut by 120 from the first one on, the last chunk with fewer.
+/// Encodes the samples of the hour in chunks of 120; the last chunk may have fewer.
 pub(crate) fn cut_chunks(
     alloc: Global,
     samples: &[Sample],

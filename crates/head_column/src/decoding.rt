@@ -1,4 +1,4 @@
-//! Samples out of the text of a chunk.
+//! Decoding the text of a chunk.
 
 ghost use Rattle.std.specs.Prelude.{◌≡◌, ◌≤◌, ◌<◌, List, length, Err, IfOk, IfSome, IfNone};
 ghost use Rattle.hw_bytes.specs.Writing.{big_number};
@@ -13,7 +13,7 @@ use crate::items::Sample;
 use hw_bytes::{be16_at, be64_at, uvarint_at, varint_at};
 use std::alloc::Global;
 
-// The time after another one at the front, and how many bytes it takes.
+// Reads the next time at the front, and returns it with its length in bytes.
 fn front_step(before: i64, bytes: &[u8]) -> Option<(i64, usize)>
     ensures found { IfSome result (λ found. IsAt (IsStep before) bytes.now found.0 found.1) }
     ensures none { IfNone result (IsNowhere (IsStep before) bytes.now) }
@@ -26,7 +26,7 @@ fn front_step(before: i64, bytes: &[u8]) -> Option<(i64, usize)>
     Some((time, len))
 }
 
-// The first time, or the next after another, at the front, and how many bytes it takes.
+// Reads the first time, or the next one after `before`, and returns it with its length in bytes.
 fn front_time(before: Option<i64>, bytes: &[u8]) -> Option<(i64, usize)>
     ensures found { IfSome result (λ found. IsAt (IsTime before) bytes.now found.0 found.1) }
     ensures none { IfNone result (IsNowhere (IsTime before) bytes.now) }
@@ -37,7 +37,7 @@ fn front_time(before: Option<i64>, bytes: &[u8]) -> Option<(i64, usize)>
     }
 }
 
-// The sample at the front, and how many bytes it takes.
+// Reads the sample at the front, and returns it with its length in bytes.
 fn front_sample(before: Option<i64>, bytes: &[u8]) -> Option<(Sample, usize)>
     ensures found { IfSome result (λ found. IsAt (IsSample before) bytes.now found.0 found.1) }
     ensures none { IfNone result (IsNowhere (IsSample before) bytes.now) }
@@ -48,7 +48,7 @@ fn front_sample(before: Option<i64>, bytes: &[u8]) -> Option<(Sample, usize)>
     Some((Sample { time, value }, len + 8))
 }
 
-// So many samples from the front, with their times in any spelling.
+// Reads `count` samples at the front, with their times in any spelling.
 fn front_samples(alloc: Global, count: usize, bytes: &[u8]) -> Result<Vec<Sample>, ChunkFault>
     ensures read { IfOk result (λ samples. AreRead count bytes.now samples.items) }
     ensures bad { result ≡ Err ChunkFault.BadChunk →
@@ -68,13 +68,13 @@ fn front_samples(alloc: Global, count: usize, bytes: &[u8]) -> Result<Vec<Sample
     Ok(samples)
 }
 
-/// The samples of which the bytes are the text. `BadChunk` where the bytes are not what `encode_chunk` writes for any
-/// samples: another count of them, times that do not rise or are no `i64`, a longer spelling, a byte too few or too many.
+/// Decodes the text of a chunk. Returns `BadChunk` if the bytes are the text of no chunk: the count is wrong, times do not ascend
+/// or exceed `i64`, a spelling is too long, or bytes are missing or left over. Returns `Memory` if out of memory.
 pub fn decode_chunk(alloc: Global, text: &[u8]) -> Result<Vec<Sample>, ChunkFault>
     ensures found { IfOk result (λ samples. IsChunk samples.items × (text.now ≡ chunk_text samples.items)) }
     ensures bad { result ≡ Err ChunkFault.BadChunk →
         (samples : List Entry) → IsChunk samples → text.now ≡ chunk_text samples → ⊥ }
-    // Whoever claims no samples, or more than a chunk has, is refused before memory is asked for.
+    // A text whose count is 0, or more than a chunk has, is refused before memory is allocated.
     ensures short { length text.now < 2 → result ≡ Err ChunkFault.BadChunk }
     ensures none { big_number 2 text.now ≡ 0 → result ≡ Err ChunkFault.BadChunk }
     ensures many { chunk_samples < big_number 2 text.now → result ≡ Err ChunkFault.BadChunk }

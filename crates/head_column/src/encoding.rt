@@ -1,4 +1,4 @@
-//! Samples as the text of a chunk.
+//! Encoding the text of a chunk.
 
 ghost use Rattle.std.specs.Prelude.{◌≡◌, ◌<◌, ◌≤◌, ◌++◌, length, IfOk, OnOk};
 ghost use Rattle.head_column.specs.Samples.{Rises};
@@ -8,7 +8,7 @@ use crate::items::Sample;
 use hw_bytes::{put_be16, put_be64, put_uvarint, put_varint};
 use std::alloc::{AllocError, Global};
 
-// Puts a time behind the bytes, the first one or the next after another.
+// Appends the first time, or the next one after `before`.
 fn put_time(bytes: &mut Vec<u8>, before: Option<i64>, time: i64) -> Result<(), AllocError>
     ensures { OnOk result (bytes.new.items ≡ bytes.old.items ++ time_text before time) }
 {
@@ -18,7 +18,7 @@ fn put_time(bytes: &mut Vec<u8>, before: Option<i64>, time: i64) -> Result<(), A
     }
 }
 
-// Puts a sample behind the bytes, after one at the time `before` if there is one.
+// Appends a sample, the first one or the next after the time `before`.
 fn put_sample(bytes: &mut Vec<u8>, before: Option<i64>, sample: &Sample) -> Result<(), AllocError>
     ensures put { OnOk result (bytes.new.items ≡ bytes.old.items ++ sample_text before sample.now) }
     ensures fit { OnOk result (IsFit sample.now) }
@@ -27,9 +27,9 @@ fn put_sample(bytes: &mut Vec<u8>, before: Option<i64>, sample: &Sample) -> Resu
     put_be64(bytes, sample.value.cast_unsigned())
 }
 
-/// The text of a chunk: how many samples there are in two bytes, big-endian, and then for each sample its time and its
-/// value. The time of the first one is a varint, each later time a uvarint of the difference to the one before, and the
-/// values have eight bytes, big-endian, two's complement.
+/// Encodes 1 to 120 samples with ascending times as the text of a chunk: the number of samples in two bytes, big-endian, and for
+/// each sample its time and its value. The first time is a varint, in milliseconds, each later one the uvarint of the difference
+/// to the one before; values have eight bytes, big-endian, two's complement. Returns an error if out of memory.
 pub fn encode_chunk(alloc: Global, samples: &[Sample]) -> Result<Vec<u8>, AllocError>
     requires some { 0 < length samples.now }
     requires few { length samples.now ≤ chunk_samples }

@@ -1,21 +1,20 @@
-//! Hours of times.
+//! Hours.
 
 ghost use Rattle.std.specs.Prelude.{◌≡◌, ◌↔◌, IsTrue, IfSome, IfNone};
 ghost use Rattle.head_column.specs.Hours.{is_in_hour, HasTime, IsEdge};
 
 use std::marker::Model;
 
-// The length of an hour in milliseconds.
+// An hour in milliseconds.
 const HOUR_LENGTH: i64 = 3_600_000;
 
-// The hours of the least and of the greatest time. The least time does not begin its hour, so it is in the one below what
-// rounding toward zero gives.
+// The hours of the least and the greatest `i64`. The least is inside its hour, so rounding toward zero gives the next one.
 const FIRST: i64 = i64::MIN / HOUR_LENGTH - 1;
 
 const LAST: i64 = i64::MAX / HOUR_LENGTH;
 
-/// An hour of times in milliseconds: hour k is the times from k * 3600000 up to, and without, (k + 1) * 3600000. At least
-/// one of its times is an `i64`. Contracts see it as the number k.
+/// An hour: hour k is the times from k * 3600000 milliseconds up to (k + 1) * 3600000, exclusive. At least one of its times is an
+/// `i64`. Contracts see it as the number k.
 #[derive(Clone, Copy, Debug, PartialEq, Eq)]
 pub struct Hour(i64);
 
@@ -32,14 +31,14 @@ impl Model for Hour {
 }
 
 impl Hour {
-    /// The hour of the time: the time divided by 3600000, rounded down.
+    /// Returns the hour of a time in milliseconds: the time divided by 3600000, rounded down.
     pub fn of(time: i64) -> Hour
         ensures { IsTrue (is_in_hour result time) }
     {
         Hour(time.div_euclid(HOUR_LENGTH))
     }
 
-    /// Hour k; `None` where none of its times is an `i64`.
+    /// Returns hour k. `None` if none of its times is an `i64`.
     pub fn new(k: i64) -> Option<Hour>
         ensures some { IfSome result (λ hour. (hour ≡ k) × HasTime k) }
         ensures none { IfNone result (HasTime k → ⊥) }
@@ -50,7 +49,7 @@ impl Hour {
         Some(Hour(k))
     }
 
-    /// Its number. By `held` a caller learns what holds of every hour.
+    /// Returns the hour's number. The clause `held` says that every `Hour` has a time that is an `i64`.
     pub fn k(self) -> i64
         ensures number { result ≡ self }
         ensures held { HasTime self }
@@ -58,7 +57,7 @@ impl Hour {
         self.0
     }
 
-    /// Whether one of its times is not an `i64`: it begins before the least one, or ends past the greatest.
+    /// Returns whether some of its times is not an `i64`, so that it begins before the least or ends past the greatest.
     pub fn is_edge(self) -> bool
         ensures { IsTrue result ↔ IsEdge self }
     {

@@ -1,4 +1,4 @@
-//! What the definitions say of each other.
+//! Laws of the definitions.
 
 ghost use Rattle.std.specs.Prelude.{◌≡◌, ◌↔◌, ◌⊎◌, ◌∷◌, ◌++◌, [], ℤ, pos, negsuc, ◌+ℤ◌, ◌-ℤ◌, ◌≤ℤ◌, Bool, IsTrue, FitsSigned, List, Option, None};
 ghost use Rattle.std.specs.List.{scan};
@@ -15,8 +15,8 @@ ghost use Rattle.head_column.specs.Chunks.{ArePartsOf, IsChunk, chunk_samples, c
 ghost use Rattle.head_column.specs.Times.{greatest};
 ghost use Rattle.hw_bytes.specs.Lists.{IsGreatest};
 
-/// The history of a column is what its items make, item by item, and the items make no other. A stale sample is found by the
-/// accepted ones, though stale ones count as well.
+/// Proves that items make just one history, the one that `history_after` makes item by item, and that the outcomes of a column
+/// are those of the items: to find a stale sample, the accepted samples suffice, though stale ones count as well.
 pub fn columns_follow_items()
     ensures start { IsHistoryOf [] no_history }
     ensures push { (items : List AnItem) (h : History) (i : AnItem) → IsHistoryOf items h → IsHistoryOf (items ++ i ∷ []) (history_after h i) }
@@ -27,7 +27,7 @@ pub fn columns_follow_items()
     ensures one_list { (test : ℤ → Bool) (qs rs : List ARun) → AreRunsOf test qs → AreRunsOf test rs → qs ≡ rs }
 {}
 
-/// The greatest accepted time alone tells the outcomes of any items, and so the same that a column tells.
+/// Proves that the greatest accepted time suffices for the outcomes of any items, so that a tally and a column return the same.
 pub fn tallies_follow_items()
     ensures start { latest_of [] ≡ None }
     ensures push { (items : List AnItem) (i : AnItem) → latest_of (items ++ i ∷ []) ≡ latest_after (latest_of items) i }
@@ -36,8 +36,9 @@ pub fn tallies_follow_items()
     ensures tally { (items : List AnItem) → scan latest_after latest_outcome None items ≡ outcomes_of items }
 {}
 
-/// A time is in one hour. Just the hours from -2562047788016 to 2562047788015 have a time that is an `i64`, and of these
-/// just the first and the last have one that is not. An hour that is no edge begins and ends at an `i64`.
+/// Proves that a time is in at most one hour; that the hours with a time that is an `i64` are those from -2562047788016 to
+/// 2562047788015, of which only the first and the last also have one that is not; and that any other hour's first and last times
+/// are `i64`s.
 pub fn hours()
     ensures one { (k l t : ℤ) → IsTrue (is_in_hour k t) → IsTrue (is_in_hour l t) → k ≡ l }
     ensures between { (k : ℤ) → HasTime k ↔ (negsuc 2562047788015 ≤ℤ k) × (k ≤ℤ pos 2562047788015) }
@@ -45,20 +46,20 @@ pub fn hours()
     ensures inside { (k : ℤ) → (IsEdge k → ⊥) → FitsSigned w64 (hour_start k) × FitsSigned w64 (hour_start (k +ℤ pos 1) -ℤ pos 1) }
 {}
 
-/// The greatest time is one of the times, and none is past it; and there is just one such.
+/// Proves that `greatest` is one of the times, that none exceeds it, and that there is just one such time.
 pub fn greatest_time()
     ensures is { (ts : List ℤ) → IsGreatest (λ t u. t ≤ℤ u) ts (greatest ts) }
     ensures one { (ts : List ℤ) (g h : Option ℤ) → IsGreatest (λ t u. t ≤ℤ u) ts g → IsGreatest (λ t u. t ≤ℤ u) ts h → g ≡ h }
 {}
 
-/// The parts of a list are the list, each but the last as long as it may be; and there are just one such parts. So the chunks of an
-/// hour's samples are those samples, 120 a chunk.
+/// Proves that the parts of samples, joined, are the samples, that each part but the last has 120, and that there is just one such
+/// list of parts. So the chunks of an hour have its samples, 120 to a chunk.
 pub fn chunk_parts()
     ensures are { (samples : List ASample) → ArePartsOf chunk_samples samples (parts chunk_samples samples) }
     ensures one { (samples : List ASample) (ps qs : List (List ASample)) → ArePartsOf chunk_samples samples ps → ArePartsOf chunk_samples samples qs → ps ≡ qs }
 {}
 
-/// A text is that of one chunk at most.
+/// Proves that a text is the text of at most one chunk.
 pub fn one_chunk()
     ensures { (samples others : List ASample) → IsChunk samples → IsChunk others → chunk_text samples ≡ chunk_text others → samples ≡ others }
 {}

@@ -1,7 +1,7 @@
-//! What is kept of one series: its accepted samples, and the runs of its hidden times; hours of time, and chunks of samples.
+//! One series: its accepted samples and the runs of its hidden times; hours of time, and chunks of samples.
 //!
-//! A `Column` is built item by item, samples and deletions in their order, and contracts say what any list of items makes of
-//! it. A `Tally` tells the same outcomes and keeps no sample.
+//! A `Column` is built item by item, samples and deletions in order. Contracts say what any list of items makes of it. A
+//! `Tally` returns the outcomes that a `Column` would, but keeps no samples.
 #![tactic(auto)]
 
 mod chunk;

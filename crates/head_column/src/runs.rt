@@ -1,4 +1,4 @@
-//! Runs of hidden times, merged in place.
+//! Merging runs of hidden times, in place.
 
 ghost use Rattle.std.specs.Prelude.{◌≡◌, ◌+◌, ◌<◌, ◌≤◌, ◌∷◌, ◌++◌, IsOk, OnErr, OnOk, drop, length, take, vec_len};
 ghost use Rattle.std.specs.Vec.{vec_capacity};
@@ -8,14 +8,14 @@ ghost use Rattle.head_column.specs.Runs.{AreApart};
 use crate::Run;
 use std::alloc::AllocError;
 
-// Whether the first run ends, and a time lies between, before the second begins. No sum is made past the greatest time.
+// Returns whether the first run ends before the second begins, with a time between them. Does not overflow at the greatest time.
 fn ends_before(first: &Run, second: &Run) -> bool
     ensures { result ≡ ends_before first.now second.now }
 {
     first.max_time < second.min_time && first.max_time + 1 < second.min_time
 }
 
-// The least run that has both.
+// Returns the least run that contains both.
 fn span_of(first: &Run, second: &Run) -> Run
     ensures { result ≡ span_of first.now second.now }
 {
@@ -25,7 +25,7 @@ fn span_of(first: &Run, second: &Run) -> Run
     }
 }
 
-// How many of the runs end before the run, found in a logarithm of steps.
+// Returns the number of runs that end before the run, by binary search.
 fn count_before(runs: &[Run], run: &Run) -> usize
     requires { AreApart runs.now }
     ensures within { result ≤ length runs.now }
@@ -38,7 +38,7 @@ fn count_before(runs: &[Run], run: &Run) -> usize
     )
 }
 
-// Where the runs go on past those that the run touches, which stand from `first` on, and the run made of it and of these.
+// Returns the place of the first run behind those that `run` touches, which begin at place `first`, and the run made of all these.
 fn absorbed(runs: &[Run], first: usize, run: &Run) -> (usize, Run)
     requires { first ≤ length runs.now }
     ensures from { first ≤ result.0 }
@@ -54,7 +54,7 @@ fn absorbed(runs: &[Run], first: usize, run: &Run) -> (usize, Run)
     (last, whole)
 }
 
-/// Adds a run, merged with those that it touches. Memory is taken only where it touches none.
+/// Adds a run, merged with those that it touches. Returns an error if out of memory; the runs are then unchanged.
 pub(crate) fn merge(runs: &mut Vec<Run>, run: Run) -> Result<(), AllocError>
     requires { AreApart runs.old.items }
     ensures merged { OnOk result (runs.new.items ≡ with_run runs.old.items run) }

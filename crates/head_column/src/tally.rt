@@ -1,4 +1,4 @@
-//! The greatest accepted time of one series alone.
+//! The greatest accepted time of a series.
 
 ghost use Rattle.std.specs.Prelude.{◌≡◌, ◌∷◌, ◌++◌, [], List, None, IfOk, IsOk, OnErr, OnOk};
 ghost use Rattle.head_column.specs.declared.items.Item.{Item as AnItem};
@@ -11,8 +11,8 @@ use head_deal::Builder;
 use std::alloc::AllocError;
 use std::marker::Model;
 
-/// The greatest time of the accepted samples of one series, if there are any. It tells the same outcomes as a `Column`.
-/// Contracts see that time.
+/// The greatest time of the accepted samples of a series, if there are any, which is how contracts see it. It returns the outcomes
+/// that a `Column` does, but keeps no samples and no hidden times.
 #[derive(Debug, Drop)]
 pub struct Tally {
     latest: Option<i64>,
@@ -27,14 +27,14 @@ impl Model for Tally {
 }
 
 impl Tally {
-    /// A series to which nothing came yet.
+    /// Makes a tally without items.
     pub fn new() -> Tally
         ensures { result ≡ None }
     {
         Tally { latest: None }
     }
 
-    // Takes one item, as `apply` does.
+    // Applies an item, as `apply` does.
     fn take(&mut self, item: &Item) -> Outcome
         ensures changed { self.new ≡ latest_after self.old item.now }
         ensures told { result ≡ latest_outcome self.old item.now }
@@ -74,13 +74,13 @@ impl Builder for Tally {
 
     ghost outcome = { latest_outcome };
 
-    /// Takes one item. It takes no memory, so it is never refused.
+    /// Applies an item, and returns its outcome. Allocates nothing, and never fails.
     fn apply(&mut self, item: &Item) -> Result<Outcome, AllocError>
         ensures changed { OnOk result (self.new ≡ latest_after self.old item.now) }
         ensures told { IfOk result (λ told. told ≡ latest_outcome self.old item.now) }
         ensures refused { OnErr result (self.new ≡ self.old) }
 
-        // What the items so far and this one leave, and what becomes of this one.
+        // The greatest accepted time of the items so far and this one, and this one's outcome.
         ensures items { (items : List AnItem) → self.old ≡ latest_of items → OnOk result (self.new ≡ latest_of (items ++ item.now ∷ [])) }
         ensures verdict { (items : List AnItem) → self.old ≡ latest_of items → IfOk result (λ told. told ≡ outcome_of items item.now) }
 

@@ -1,9 +1,9 @@
-//! Whether the greatest of a series' accepted times is past another.
+//! Comparing a time with the greatest accepted one.
 
 ghost use Rattle.std.specs.Prelude.{◌≡◌};
 ghost use Rattle.head_column.specs.Times.{reaches};
 
-/// Whether there is a time, and it is equal or later.
+/// Returns whether there is a greatest time, and it is `time` or later.
 pub(crate) fn reaches(latest: Option<i64>, time: i64) -> bool
     ensures { result ≡ reaches latest time }
 {

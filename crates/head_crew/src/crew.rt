@@ -12,25 +12,25 @@ use std::sync::Wait;
 use std::thread;
 use std::thread::{Promise, Threads};
 
-/// What one worker owns, and finishes in a thread of its own.
+/// The work of one worker, which owns it and finishes it in its own thread.
 pub trait Job {
-    /// What is known of a job that was finished: of the job as it was, and as it is then.
+    /// What is known of a finished job: a relation between the job before and after.
     ghost done: { Self → Self → Type 0 };
 
-    /// Passes the gate that stands before such jobs. Each worker calls it once, before its job.
+    /// Passes the gate before jobs of this type. Each worker calls it once, before its job.
     fn enter<G: Gate>(gate: &G, worker: usize, turn: u64);
 
-    /// Finishes the job.
+    /// Finishes the job. Returns an error if out of memory.
     fn finish(&mut self) -> Result<(), AllocError>
         ensures { OnOk result (done self.old self.new) };
 }
 
-/// Why jobs were not finished.
+/// An error of finishing jobs.
 #[derive(Clone, Copy, Debug, PartialEq, Eq)]
 pub enum CrewFault {
-    /// Memory ran out.
+    /// Out of memory.
     Memory,
-    /// A thread could not start. Those that did were joined.
+    /// A thread could not start. Those that did start were joined.
     Workers,
 }
 
@@ -45,25 +45,24 @@ impl From<AllocError> for CrewFault {
     }
 }
 
-/// Which threads may start. Threads are numbered as the workers are, from 0.
+/// Which threads may start, by their workers' numbers, from 0.
 #[derive(Clone, Copy, Debug)]
 pub struct Starts {
     below: usize,
 }
 
 impl Starts {
-    /// All threads may start.
+    /// Lets all threads start.
     pub fn all() -> Starts {
         Starts { below: usize::MAX }
     }
 
-    /// Only threads with a number below `number` may start: all others are refused, as they are where the system has no thread left. A test
-    /// sees by it what comes of a refusal.
+    /// Lets only threads with a number below `number` start. The others fail as they do if the system has no thread left. For tests.
     pub fn below(number: usize) -> Starts {
         Starts { below: number }
     }
 
-    /// The stack of the thread with this number. One that is refused is given a larger stack than any thread can have.
+    /// Returns the stack of the thread with this number. A thread that may not start gets a larger stack than any thread can have.
     pub fn stack(self, number: usize) -> Stack {
         if number < self.below {
             Stack::new()
@@ -73,7 +72,7 @@ impl Starts {
     }
 }
 
-/// Workers, each of which finishes a job in a thread of its own: what lets them start, and the gate that they pass.
+/// Workers, each of which finishes one job in its own thread: the handle that starts threads, the gate, and which threads may start.
 #[derive(Drop)]
 pub struct Crew<'a, R, G> {
     rt: &'a R,
@@ -82,12 +81,12 @@ pub struct Crew<'a, R, G> {
 }
 
 impl<'a, R: Threads + Wait + Sync, G: Gate + Sync> Crew<'a, R, G> {
-    /// Workers whose threads are started by `rt`, where `starts` lets them, and pass this gate.
+    /// Makes workers that pass this gate. Their threads are started by `rt`, if `starts` lets them.
     pub fn new(rt: &'a R, gate: &'a G, starts: Starts) -> Crew<'a, R, G> {
         Crew { rt, gate, starts }
     }
 
-    /// The same workers, with no gate before their jobs.
+    /// Returns these workers without a gate before their jobs.
     pub fn without_gate(&self) -> Crew<'a, R, NoGate> {
         Crew {
             rt: self.rt,
@@ -96,18 +95,18 @@ impl<'a, R: Threads + Wait + Sync, G: Gate + Sync> Crew<'a, R, G> {
         }
     }
 
-    /// What starts threads, and waits for them.
+    /// Borrows the handle that starts threads and waits for them.
     pub(crate) fn rt(&self) -> &'a R {
         self.rt
     }
 
-    /// Which threads may start.
+    /// Returns which threads may start.
     pub(crate) fn starts(&self) -> Starts {
         self.starts
     }
 
-    /// Finishes the jobs, each in a thread of its own, in the round `turn`, and gives them back in order. All threads that it started are
-    /// joined before it returns, also where it fails.
+    /// Finishes at most 64 jobs of the round `turn`, each in its own thread, and returns them in order. Joins all threads that it
+    /// started before it returns, also on an error.
     pub fn finish<J: Job + Send + Drop>(&self, turn: u64, jobs: Vec<J>) -> Result<Vec<J>, CrewFault>
         requires { vec_len jobs ≤ 64 }
         ensures { IfOk result (λ after. AreDone J.done jobs.items after.items) }
@@ -116,7 +115,7 @@ impl<'a, R: Threads + Wait + Sync, G: Gate + Sync> Crew<'a, R, G> {
     }
 }
 
-/// What is known of the jobs that a thread gives back: each of those that it was given is finished.
+/// What is known of the jobs that a thread returns: each job that it was given is finished.
 #[derive(Drop)]
 pub(crate) struct Finishes<J>(pub(crate) Snapshot<Vec<J>>);
 
@@ -127,7 +126,7 @@ impl<J: Job> Promise<Result<Vec<J>, CrewFault>> for Finishes<J> {
     ghost kept_by = { λ p r. IfOk r (λ after. AreDone J.done p.0.value.items after.items) };
 }
 
-// The one job, where there is one.
+// Finishes one job, or none.
 fn finish_one<J: Job + Drop, G: Gate>(
     gate: &G,
     turn: u64,
@@ -144,7 +143,7 @@ fn finish_one<J: Job + Drop, G: Gate>(
     Ok(jobs)
 }
 
-// The jobs of both halves.
+// Appends the jobs of the upper half to those of the lower.
 fn put_together<J: Drop>(
     low: Result<Vec<J>, CrewFault>,
     high: Result<Vec<J>, CrewFault>,
@@ -157,7 +156,7 @@ fn put_together<J: Drop>(
     Ok(all)
 }
 
-// Each job in a thread of its own: this one has the first, and the others are started by halving.
+// Finishes the jobs, each in its own thread: the calling thread takes the first one, and starts a thread for each upper half.
 #[cycle(halving)]
 fn finish_from<J: Job + Send + Drop, G: Gate + Sync, R: Threads + Wait + Sync>(
     rt: &R,
@@ -198,7 +197,7 @@ fn finish_from<J: Job + Send + Drop, G: Gate + Sync, R: Threads + Wait + Sync>(
     )
 }
 
-/// Finishes the jobs as [`Crew::finish`] does, with no gate before them, and the first of them in the calling thread.
+/// Finishes the jobs without a gate, the first of them in the calling thread.
 pub(crate) fn finish_here<J: Job + Send + Drop, R: Threads + Wait + Sync>(
     rt: &R,
     starts: Starts,
@@ -211,7 +210,7 @@ pub(crate) fn finish_here<J: Job + Send + Drop, R: Threads + Wait + Sync>(
     finish_from(rt, starts, &NoGate, turn, 0, jobs)
 }
 
-// The same as `finish_from`, where this thread only waits.
+// Finishes the jobs as `finish_from` does, but all of them in other threads: the calling thread only waits.
 fn finish_all<J: Job + Send + Drop, G: Gate + Sync, R: Threads + Wait + Sync>(
     rt: &R,
     starts: Starts,

@@ -1,16 +1,16 @@
-//! Where workers can be seen, and held up.
+//! Gates, by which tests observe and delay workers.
 
-/// Called by the workers of a replay. A gate changes nothing of what is replayed: it is there so that a test can see
-/// which workers are at work, and hold them up.
+/// Calls that the workers of a replay make. A gate changes nothing of what is replayed; by it a test observes which workers are
+/// running, and delays them.
 pub trait Gate {
-    /// Each worker calls it once in a round, before its first piece of the log. Rounds are counted from 0.
+    /// Called by each worker once a round, before its first run of pages. Rounds are counted from 0.
     fn pass(&self, worker: usize, turn: u64);
 
-    /// Each worker calls it once in a round, before it runs its part of the items that the round's records brought.
+    /// Called by each worker once a round, before it applies its part of the round's items.
     fn part(&self, worker: usize, turn: u64);
 }
 
-/// The gate that holds nobody up.
+/// The gate that delays nobody.
 #[derive(Clone, Copy, Debug)]
 pub struct NoGate;
 

@@ -1,4 +1,4 @@
-//! The part of a deal that a worker runs.
+//! The part of a deal, as a job.
 
 use crate::crew::Job;
 use crate::gate::Gate;

@@ -1,4 +1,4 @@
-//! The label sets of a batch, counted by label.
+//! Counting the label sets of a batch by label.
 
 ghost use Rattle.std.specs.Prelude.{◌≡◌, ◌++◌, ◌∷◌, [], List, OnOk};
 ghost use Rattle.head_postings.specs.Postings.{Labels};
@@ -9,14 +9,14 @@ use std::alloc::{AllocError, Global};
 use std::marker::Model;
 use wal_record::{LabelSet, Slot};
 
-/// The label sets of the series that a batch makes new, counted by label: so much room each list needs.
+/// Counts of the label sets of the series that a batch adds, by label: how many slots each list will take.
 #[derive(Debug)]
 pub struct Batch {
     many: usize,
     names: Names,
 }
 
-// Written out: where another function lets go of a batch, its proof has one call, and not a copy of this.
+// Written out, so that a function that drops one has a call in its proof, and not a copy of this body.
 impl Drop for Batch {
     fn drop(self) {
         let Batch {
@@ -35,7 +35,7 @@ impl Model for Batch {
 }
 
 impl Batch {
-    // No label sets.
+    // Makes a batch of no label sets.
     pub(crate) fn new(alloc: Global) -> Batch
         ensures { IsCountOf [] result }
     {
@@ -45,28 +45,28 @@ impl Batch {
         }
     }
 
-    // How many label sets it has.
+    // Returns the number of label sets.
     pub(crate) fn len(&self) -> usize
         ensures { result ≡ self.now.many }
     {
         self.many
     }
 
-    // At each label a list as long as the number of the sets that have it.
+    // Borrows the counts: beside each label a list whose length is the number of sets that have it.
     pub(crate) fn names(&self) -> &Names
         ensures { result.now.slots ≡ self.now.names }
     {
         &self.names
     }
 
-    // Counts one label set more.
+    // Counts one more label set.
     pub(crate) fn add(&mut self, labels: &LabelSet) -> Result<(), AllocError>
         ensures { (sets : List Labels) → IsCountOf sets self.old → OnOk result (IsCountOf (sets ++ labels.now ∷ []) self.new) }
     {
         let Some(many) = self.many.checked_add(1) else {
             return Err(AllocError);
         };
-        // only how many there are is asked
+        // only the number of slots counts
         self.names.add(Slot::new(0), labels)?;
         self.many = many;
         Ok(())

@@ -1,7 +1,7 @@
-//! The slots of each label: which series have it.
+//! Postings: the slots of the series that have a label, for each label.
 //!
-//! Slots are added in ascending order, each with its label set, so every list ascends. A look-up takes no memory. Nothing
-//! here knows of references, samples or times.
+//! Slots are added in ascending order, each with its label set, so every list ascends. A look-up allocates nothing. Nothing here
+//! knows of references, samples or times.
 #![tactic(auto)]
 
 mod batch;

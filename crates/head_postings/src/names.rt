@@ -1,4 +1,4 @@
-//! The slots of each label, by its name and then by its value.
+//! The slots of each label, by name and then by value.
 
 ghost use Rattle.std.specs.Prelude.{◌≡◌, ◌+◌, ◌-◌, ◌<◌, ◌≤◌, ◌++◌, ◌∷◌, [], ℕ, true, false, List, length, take, if◌then◌else◌, IfOk, OnOk, OnErr};
 ghost use Rattle.wal_record.specs.Labels.{same_label, same_text};
@@ -13,7 +13,7 @@ use std::alloc::{AllocError, Global};
 use std::marker::Model;
 use wal_record::{LabelSet, Slot};
 
-/// For each name the slots of each value.
+/// For each name, the slots of each value.
 #[derive(Debug, Drop)]
 pub(crate) struct Names {
     values: IndexMap<Vec<u8>, Values>,
@@ -32,7 +32,7 @@ impl Model for Names {
 }
 
 impl Names {
-    // No names.
+    // Makes a map of no names.
     pub(crate) fn new(alloc: Global) -> Names
         ensures { result.slots ≡ [] }
     {
@@ -41,7 +41,7 @@ impl Names {
         }
     }
 
-    // The slots of a label.
+    // Borrows the slots of a label.
     pub(crate) fn find(&self, name: &[u8], value: &[u8]) -> &[Slot]
         ensures { result.now ≡ slots_of self.now.slots name.now value.now }
     {
@@ -51,7 +51,7 @@ impl Names {
         }
     }
 
-    // Adds a slot to those of a label. On an error each label has the slots that it had.
+    // Appends a slot to those of a label. If out of memory, the slots of all labels are unchanged.
     fn push(&mut self, name: &[u8], value: &[u8], slot: Slot) -> Result<(), AllocError>
         ensures ok { OnOk result ((n v : List ℕ) → slots_of self.new.slots n v ≡ slots_of self.old.slots n v ++ (if same_label (label n v) (label name.now value.now) then slot ∷ [] else [])) }
         ensures err { OnErr result ((n v : List ℕ) → slots_of self.new.slots n v ≡ slots_of self.old.slots n v) }
@@ -73,7 +73,7 @@ impl Names {
         }
     }
 
-    // Takes back the last slot of a label.
+    // Removes the last slot of a label.
     fn pop(&mut self, name: &[u8], value: &[u8])
         ensures { (n v : List ℕ) → slots_of self.new.slots n v ≡ (if same_label (label n v) (label name.now value.now) then take (length (slots_of self.old.slots n v) - 1) (slots_of self.old.slots n v) else slots_of self.old.slots n v) }
     {
@@ -83,7 +83,7 @@ impl Names {
         }
     }
 
-    // Takes back a slot that was given to the first labels.
+    // Removes the last slot of each of the first `many` labels.
     fn take_back(&mut self, labels: &LabelSet, many: usize)
         requires { many ≤ length labels.now }
         ensures { (s : ℕ) (n v before : List ℕ) → slots_of self.old.slots n v ≡ before ++ given s (take many labels.now) n v → slots_of self.new.slots n v ≡ before }
@@ -96,7 +96,7 @@ impl Names {
         }
     }
 
-    // Adds a slot to those of each label of a set. On an error each label has the slots that it had.
+    // Appends a slot to those of each label of a set. If out of memory, the slots of all labels are unchanged.
     pub(crate) fn add(&mut self, slot: Slot, labels: &LabelSet) -> Result<(), AllocError>
         ensures ok { OnOk result ((n v : List ℕ) → slots_of self.new.slots n v ≡ slots_of self.old.slots n v ++ (if holds labels.now n v then slot ∷ [] else [])) }
         ensures err { OnErr result ((n v : List ℕ) → slots_of self.new.slots n v ≡ slots_of self.old.slots n v) }
@@ -115,7 +115,7 @@ impl Names {
         Ok(())
     }
 
-    // Makes room for this many slots more of a label. A label with no slots is as good as none.
+    // Allocates memory for this many more slots of a label. The slots are unchanged; a label may be added that has none.
     fn make_room(&mut self, name: &[u8], value: &[u8], more: usize) -> Result<(), AllocError>
         ensures same { (n v : List ℕ) → slots_of self.new.slots n v ≡ slots_of self.old.slots n v }
         ensures room { OnOk result (more ≤ room_of self.new.rooms name.now value.now) }
@@ -138,7 +138,7 @@ impl Names {
         }
     }
 
-    // Adds a slot to those of a label, for which there is room.
+    // Appends a slot to those of a label. The label's list must have room for it. Allocates nothing.
     fn push_ready(&mut self, name: &[u8], value: &[u8], slot: Slot)
         requires { 0 < room_of self.old.rooms name.now value.now }
         ensures slots { (n v : List ℕ) → slots_of self.new.slots n v ≡ slots_of self.old.slots n v ++ (if same_label (label n v) (label name.now value.now) then slot ∷ [] else []) }
@@ -150,7 +150,7 @@ impl Names {
         }
     }
 
-    // Makes room at each label of a set, for as many slots as these have there.
+    // Allocates memory at each label of a set, for as many more slots as `these` have at that label.
     pub(crate) fn reserve(&mut self, these: &Names, labels: &LabelSet) -> Result<(), AllocError>
         ensures same { (n v : List ℕ) → slots_of self.new.slots n v ≡ slots_of self.old.slots n v }
         ensures room { OnOk result ((n v : List ℕ) → holds labels.now n v ≡ true → length (slots_of these.now.slots n v) ≤ room_of self.new.rooms n v) }
@@ -163,7 +163,7 @@ impl Names {
         Ok(())
     }
 
-    // Adds a slot to those of each label of a set, for which there is room.
+    // Appends a slot to those of each label of a set. The labels' lists must have room for it. Allocates nothing.
     pub(crate) fn add_ready(&mut self, slot: Slot, labels: &LabelSet)
         requires { (n v : List ℕ) → (if holds labels.now n v then 1 else 0) ≤ room_of self.old.rooms n v }
         ensures slots { (n v : List ℕ) → slots_of self.new.slots n v ≡ slots_of self.old.slots n v ++ (if holds labels.now n v then slot ∷ [] else []) }
@@ -176,7 +176,7 @@ impl Names {
         }
     }
 
-    // The union with the slots of one name.
+    // Adds the slots of one name, as a union for each value.
     fn absorb(&mut self, name: Vec<u8>, values: Values) -> Result<(), AllocError>
         requires these { (n v : List ℕ) → IsAscending (slots_of self.old.slots n v) }
         requires those { (v : List ℕ) → IsAscending (listed values.slots v) }
@@ -194,7 +194,7 @@ impl Names {
         }
     }
 
-    // The union, label by label.
+    // Makes the union with another map, label by label.
     pub(crate) fn merge(&mut self, other: Names) -> Result<(), AllocError>
         requires these { (n v : List ℕ) → IsAscending (slots_of self.old.slots n v) }
         requires those { (n v : List ℕ) → IsAscending (slots_of other.slots n v) }
@@ -207,7 +207,7 @@ impl Names {
         Ok(())
     }
 
-    // The same, in memory of its own.
+    // Copies the map. Returns an error if out of memory.
     pub(crate) fn copy(&self) -> Result<Names, AllocError>
         ensures { IfOk result (λ copy. copy.slots ≡ self.now.slots) }
     {

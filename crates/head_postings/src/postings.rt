@@ -12,15 +12,15 @@ use std::alloc::{AllocError, Global};
 use std::marker::Model;
 use wal_record::{LabelSet, Slot};
 
-/// For each label, a name with a value, the ascending list of the slots whose label set has it, and the list of all slots.
-/// Contracts see `Lists`, of which they say what `all` is and what is `selected` at each name and value.
+/// Postings: for each label, a name with a value, the ascending list of the slots whose label set has it, and the list of all
+/// slots, as the postings of index.md. Contracts see `Lists`: `all`, and what is `selected` at each name and value.
 #[derive(Debug)]
 pub struct Postings {
     names: Names,
     all: Vec<Slot>,
 }
 
-// Written out: where another function lets go of postings, its proof has one call, and not a copy of this.
+// Written out, so that a function that drops one has a call in its proof, and not a copy of this body.
 impl Drop for Postings {
     fn drop(self) {
         let Postings {
@@ -51,7 +51,7 @@ impl Model for Postings {
 }
 
 impl Postings {
-    /// No slots.
+    /// Makes postings of no slots.
     pub fn new(alloc: Global) -> Postings
         ensures { IsPostingsOf [] result }
     {
@@ -61,7 +61,8 @@ impl Postings {
         }
     }
 
-    /// Adds a slot, greater than all that are there, with its label set. Where memory ran out, every list is as it was.
+    /// Adds a slot with its label set. The slot must be greater than all others. Returns an error if out of memory; every list is then
+    /// unchanged.
     pub fn add(&mut self, slot: Slot, labels: &LabelSet) -> Result<(), AllocError>
         requires { AreBelow slot self.old.all }
         ensures every { OnOk result (self.new.all ≡ self.old.all ++ slot ∷ []) }
@@ -76,15 +77,15 @@ impl Postings {
         Ok(())
     }
 
-    /// A batch of no label sets yet.
+    /// Makes a batch of no label sets.
     pub fn batch(&self) -> Batch
         ensures { IsReserved self.now [] result }
     {
         Batch::new(*self.all.allocator())
     }
 
-    /// Takes one label set more into a batch, and makes room for a new slot with it beside the others. Whatever is answered, every
-    /// list is as it was. Where memory ran out, the batch is of no use any more.
+    /// Adds a label set to a batch, and allocates memory for one slot for each label set of the batch. Every list is unchanged.
+    /// Returns an error if out of memory; the batch must not be used afterwards.
     pub fn make_room(&mut self, batch: &mut Batch, labels: &LabelSet) -> Result<(), AllocError>
         ensures kept { AreAlike self.old self.new }
         ensures room { (sets : List Labels) → IsReserved self.old sets batch.old → OnOk result (IsReserved self.new (sets ++ labels.now ∷ []) batch.new) }
@@ -95,7 +96,7 @@ impl Postings {
         Ok(())
     }
 
-    /// Adds a slot, greater than all that are there, with its label set. There has to be room for it. No memory is taken.
+    /// Adds a slot with its label set, as `add` does, if the lists have room for it. Allocates nothing.
     pub fn add_ready(&mut self, slot: Slot, labels: &LabelSet)
         requires below { AreBelow slot self.old.all }
         requires room { HasRoom self.old (labels.now ∷ []) }
@@ -103,17 +104,17 @@ impl Postings {
         ensures each { (name value : List ℕ) → selected self.new name value ≡ selected self.old name value ++ (if holds labels.now name value then slot ∷ [] else []) }
         // The postings of the slots so far, and of this one.
         ensures postings { (sets : List (ℕ × Labels)) → IsPostingsOf sets self.old → IsPostingsOf (sets ++ (slot, labels.now) ∷ []) self.new }
-        // Where there was room for others after it, it is there still.
+        // If there was room for others after it, there still is.
         ensures left { (rest : List Labels) → HasRoom self.old (labels.now ∷ rest) → HasRoom self.new rest }
     {
         self.names.add_ready(slot, labels);
         self.all.push_reserved(slot);
     }
 
-    /// The union of both in every list. Where memory ran out, both are gone.
+    /// Makes the union of two postings, list by list. Returns an error if out of memory; both are dropped.
     pub fn merge(self, other: Postings) -> Result<Postings, AllocError>
         ensures union { IfOk result (λ union. AreMerged self other union) }
-        // Where the slots of one list were dealt to the two, this is what adding them all in order gives.
+        // If the slots of one list were dealt to the two, this is what adding them all in order gives.
         ensures postings { (xs ys zs : List (ℕ × Labels)) → IsPostingsOf xs self → IsPostingsOf ys other → IsMergeOf xs ys zs → IfOk result (λ union. IsPostingsOf zs union) }
     {
         let alloc = *self.all.allocator();
@@ -130,8 +131,8 @@ impl Postings {
         Ok(Postings { names, all })
     }
 
-    /// The slots whose label set has the label, ascending. There are none where the name is empty, since no label set has such
-    /// a label. No memory is taken.
+    /// Borrows the slots whose label set has the label, ascending. Empty if the name is, since no label set has such a label.
+    /// Allocates nothing.
     pub fn select(&self, name: &[u8], value: &[u8]) -> &[Slot]
         ensures slots { result.now ≡ selected self.now name.now value.now }
         ensures ascending { IsAscending result.now }
@@ -139,12 +140,12 @@ impl Postings {
         ensures below { (n : ℕ) → AreBelow n self.now.all → AreBelow n result.now }
         ensures named { name.now ≡ [] → result.now ≡ [] }
     {
-        // for the proof, which knows the invariant where a field is named
+        // for the proof, which has the invariant only if the body names a field
         let _all = &self.all;
         self.names.find(name, value)
     }
 
-    /// All slots, ascending. No memory is taken.
+    /// Borrows all slots, ascending. Allocates nothing.
     pub fn all(&self) -> &[Slot]
         ensures slots { result.now ≡ self.now.all }
         ensures ascending { IsAscending result.now }
@@ -152,7 +153,7 @@ impl Postings {
         self.all.as_slice()
     }
 
-    /// The same, in memory of its own. What is added to either from then on, the other does not see.
+    /// Copies the postings: no call tells the copy from these. Returns an error if out of memory.
     pub fn copy(&self) -> Result<Postings, AllocError>
         ensures { IfOk result (λ copy. AreAlike self.now copy) }
     {

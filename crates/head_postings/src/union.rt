@@ -1,4 +1,4 @@
-//! The union of two lists of slots.
+//! The union of lists of slots.
 
 ghost use Rattle.std.specs.Prelude.{IfOk};
 ghost use Rattle.head_postings.specs.Slots.{IsAscending, IsUnion};
@@ -6,7 +6,7 @@ ghost use Rattle.head_postings.specs.Slots.{IsAscending, IsUnion};
 use std::alloc::{AllocError, Global};
 use wal_record::Slot;
 
-// The union of two ascending lists, each of which is walked once.
+// Returns the union of two ascending lists, in linear time.
 pub(crate) fn united(
     alloc: Global,
     first: &[Slot],

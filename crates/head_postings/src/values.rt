@@ -11,7 +11,7 @@ use std::alloc::{AllocError, Global};
 use std::marker::Model;
 use wal_record::Slot;
 
-/// The slots of each value.
+/// For each value of one name, its slots.
 #[derive(Debug, Drop)]
 pub(crate) struct Values {
     lists: IndexMap<Vec<u8>, Vec<Slot>>,
@@ -31,7 +31,7 @@ impl Model for Values {
 }
 
 impl Values {
-    // No values.
+    // Makes a map of no values.
     pub(crate) fn new(alloc: Global) -> Values
         ensures { result.slots ≡ [] }
     {
@@ -40,14 +40,14 @@ impl Values {
         }
     }
 
-    // Gives back the room for further values. A map makes room for nine at once, and a name may have one alone.
+    // Frees the memory for further values. A map allocates for nine at once, and a name may have only one.
     pub(crate) fn trim(&mut self)
         ensures { self.new ≡ self.old }
     {
         self.lists.shrink_to_fit();
     }
 
-    // The slots of a value.
+    // Borrows the slots of a value.
     pub(crate) fn find(&self, value: &[u8]) -> &[Slot]
         ensures { result.now ≡ listed self.now.slots value.now }
     {
@@ -57,7 +57,7 @@ impl Values {
         }
     }
 
-    // Adds a slot to those of a value. On an error each value has the slots that it had.
+    // Appends a slot to those of a value. If out of memory, the slots of all values are unchanged.
     pub(crate) fn push(&mut self, value: &[u8], slot: Slot) -> Result<(), AllocError>
         ensures ok { OnOk result ((v : List ℕ) → listed self.new.slots v ≡ listed self.old.slots v ++ (if same_text v value.now then slot ∷ [] else [])) }
         ensures err { OnErr result ((v : List ℕ) → listed self.new.slots v ≡ listed self.old.slots v) }
@@ -78,7 +78,7 @@ impl Values {
         }
     }
 
-    // Takes back the last slot of a value.
+    // Removes the last slot of a value.
     pub(crate) fn pop(&mut self, value: &[u8])
         ensures { (v : List ℕ) → listed self.new.slots v ≡ (if same_text v value.now then take (length (listed self.old.slots v) - 1) (listed self.old.slots v) else listed self.old.slots v) }
     {
@@ -90,7 +90,7 @@ impl Values {
         }
     }
 
-    // Makes room for this many slots more of a value. A value with no slots is as good as none.
+    // Allocates memory for this many more slots of a value. The slots are unchanged; a value may be added that has none.
     pub(crate) fn make_room(&mut self, value: &[u8], more: usize) -> Result<(), AllocError>
         ensures same { (v : List ℕ) → listed self.new.slots v ≡ listed self.old.slots v }
         ensures room { OnOk result (more ≤ length (listed self.new.rooms value.now)) }
@@ -111,7 +111,7 @@ impl Values {
         }
     }
 
-    // Adds a slot to those of a value, for which there is room.
+    // Appends a slot to those of a value. The value's list must have room for it. Allocates nothing.
     pub(crate) fn push_ready(&mut self, value: &[u8], slot: Slot)
         requires { 0 < length (listed self.old.rooms value.now) }
         ensures slots { (v : List ℕ) → listed self.new.slots v ≡ listed self.old.slots v ++ (if same_text v value.now then slot ∷ [] else []) }
@@ -123,7 +123,7 @@ impl Values {
         }
     }
 
-    // The union with the slots of one value.
+    // Adds the slots of one value, as a union.
     fn absorb(&mut self, value: Vec<u8>, slots: Vec<Slot>) -> Result<(), AllocError>
         requires these { (v : List ℕ) → IsAscending (listed self.old.slots v) }
         requires those { IsAscending slots.items }
@@ -143,7 +143,7 @@ impl Values {
         }
     }
 
-    // The union, value by value.
+    // Makes the union with another map, value by value.
     pub(crate) fn merge(&mut self, other: Values) -> Result<(), AllocError>
         requires these { (v : List ℕ) → IsAscending (listed self.old.slots v) }
         requires those { (v : List ℕ) → IsAscending (listed other.slots v) }
@@ -156,7 +156,7 @@ impl Values {
         Ok(())
     }
 
-    // The same, in memory of its own.
+    // Copies the map. Returns an error if out of memory.
     pub(crate) fn copy(&self) -> Result<Values, AllocError>
         ensures { IfOk result (λ copy. copy.slots ≡ self.now.slots) }
     {

@@ -1,4 +1,4 @@
-//! Numbers of pieces of work, that workers draw: each is drawn once.
+//! Drawing numbers, each once.
 
 ghost use Rattle.std.specs.Prelude.{◌≡◌, ℕ, ◌+◌, ◌^◌, ◌<◌, ◌≤◌, ◌≢◌, List, [], ◌∷◌, ◌++◌, max, IfOk, IfSome, IfNone, None};
 ghost use Rattle.head_tickets.specs.Tickets.{Closes, HasNoRepeat, IsAt, Tickets, pass_of, times};
@@ -9,7 +9,7 @@ use std::alloc::{AllocError, Global};
 use std::collections::LinkedList;
 use std::marker::Model;
 
-/// What the rule knows of a pass. No value of it is made.
+/// What the rule of the claims knows of a pass. It is for contracts only: no value of it is made.
 pub struct Known {
     pub is_spent: bool,
     pub pieces: u64,
@@ -17,7 +17,7 @@ pub struct Known {
     pub drawn: LinkedList<u64>,
 }
 
-// The rule of the one word: how many numbers were drawn.
+// The rule of the one word, which says how many numbers were drawn.
 struct Drawing;
 
 impl TableRule<(), Known, u64> for Drawing {
@@ -28,7 +28,7 @@ impl TableRule<(), Known, u64> for Drawing {
     ghost first = { λ pieces. known pieces 0 [] };
 }
 
-// A claim: the word is found as the pass last saw it, and grows by one; or it is found greater.
+// The step of a claim: the word is as the pass last saw it and grows by one, or it is greater and stays.
 struct Claiming;
 
 impl Play<(), Known> for Claiming {
@@ -37,7 +37,7 @@ impl Play<(), Known> for Claiming {
     ghost then = { λ step me found after. Draws step me found after };
 }
 
-// A look, which changes nothing.
+// The step of a look at the word, which changes nothing.
 struct Looking;
 
 impl Play<(), Known> for Looking {
@@ -46,7 +46,7 @@ impl Play<(), Known> for Looking {
     ghost then = { λ step me found after. Looks step me found after };
 }
 
-// A new pass.
+// The split of a pass into itself and a new one that drew nothing.
 struct Fresh;
 
 impl Split<Known> for Fresh {
@@ -57,7 +57,7 @@ impl Split<Known> for Fresh {
     ghost right = { λ v. fresh v };
 }
 
-// Two passes in one.
+// The join of two passes to one.
 struct Both;
 
 impl Join<Known> for Both {
@@ -68,14 +68,14 @@ impl Join<Known> for Both {
     ghost spent = { spent };
 }
 
-/// Pieces of work, numbered from 0, that passes claim: each number is drawn once, by whichever pass comes first. A pass is used with the
-/// claims that it came from.
+/// Pieces of work, numbered from 0, for passes to claim: each number is drawn once, by the pass that comes first. A pass is used only
+/// with the claims that it came from.
 pub struct Claims {
     pieces: u64,
     table: Table<(), Known, u64, Drawing, Global>,
 }
 
-// Written out: where another function drops one, its proof has one call, and not a copy of this.
+// Written out, so that a function that drops one has a call in its proof, and not a copy of this body.
 impl Drop for Claims {
     fn drop(self) {
         let Claims {
@@ -96,7 +96,7 @@ impl Model for Claims {
     ghost invariant = { λ c. (c.table.shared.key ≡ c.pieces) × (c.table.shared.table_id.words ≡ 1) × (c.table.shared.table_id.slots ≡ 0) × (c.pieces ≤ 2 ^ 32) };
 }
 
-/// The right to claim. It goes from worker to worker by move, and knows which numbers it drew and how many it has seen drawn in all.
+/// The right to claim. It moves from worker to worker. Contracts see which numbers it drew, and how many it has seen drawn in all.
 #[derive(Drop)]
 pub struct Pass {
     seen: u64,
@@ -115,7 +115,8 @@ impl Model for Pass {
 }
 
 impl Claims {
-    /// So many pieces, of which none is claimed, and the pass that all others are split from.
+    /// Makes claims of at most 2^32 pieces, none of them claimed, and the pass that all others are split from. Returns an error if out of
+    /// memory.
     pub fn new(alloc: Global, pieces: u64) -> Result<(Claims, Pass), AllocError>
         requires { pieces ≤ 2 ^ 32 }
         ensures { IfOk result (λ made. (made.0.pieces ≡ pieces) × (made.1 ≡ pass_of made.0 0 [])) }
@@ -124,7 +125,7 @@ impl Claims {
         Ok((Claims { pieces, table }, Pass { seen: 0, seat }))
     }
 
-    /// The pass, and a new one that drew nothing. No memory is taken.
+    /// Returns the pass, and a new one that drew nothing. Allocates nothing.
     pub fn split(&self, pass: Pass) -> (Pass, Pass)
         requires { pass.claims ≡ self.now }
         ensures kept { result.0 ≡ pass }
@@ -135,8 +136,8 @@ impl Claims {
         (Pass { seen, seat }, Pass { seen, seat: other })
     }
 
-    /// The next number, or `None` where all are drawn, and from then on. It tries until it has drawn a number or sees that none is left; each
-    /// try that fails shows a greater number. No memory is taken.
+    /// Draws the next number. Returns `None` if all are drawn, and from then on. Tries until it has drawn a number or sees that none is
+    /// left; after each failed try the word is greater. Allocates nothing.
     pub fn claim(&self, pass: &mut Pass) -> Option<u64>
         requires { pass.old.claims ≡ self.now }
         ensures drew { IfSome result (λ number. (pass.old.seen ≤ number) × (number < self.now.pieces) × (pass.new ≡ pass_of self.now (number + 1) (pass.old.drawn ++ number ∷ []))) }
@@ -159,7 +160,7 @@ impl Claims {
         None
     }
 
-    /// One pass of two, with the numbers of both, of which none is there twice. No memory is taken.
+    /// Joins two passes to one, with the numbers of both; none of them is there twice. Allocates nothing.
     pub fn join(&self, pass: Pass, other: Pass) -> Pass
         requires this { pass.claims ≡ self.now }
         requires that { other.claims ≡ self.now }
@@ -172,7 +173,7 @@ impl Claims {
             seat: other_seat,
         } = other;
         self.table.shared.join_seat::<Both>(&mut seat, other_seat);
-        // for the proof: a look tells that no number is there twice
+        // for the proof: after a look no number is there twice
         self.table.shared.load::<Looking>(&mut seat, 0);
         Pass {
             seen: seen.max(other_seen),
@@ -180,7 +181,7 @@ impl Claims {
         }
     }
 
-    /// How many pieces were claimed: each number below was drawn once, and no other. No memory is taken.
+    /// Ends the claims, and returns how many pieces were claimed: each number below that was drawn once, and no other. Allocates nothing.
     pub fn close(self, pass: Pass) -> u64
         requires { pass.claims ≡ self }
         ensures word { Closes pass result }
@@ -197,7 +198,7 @@ impl Claims {
     }
 }
 
-/// What the rule of claims says of each number: one that was drawn stands once in the list of just one pass, and any other in none.
+/// Proves from the rule of the claims that each drawn number is once in the list of just one pass, and any other number in none.
 pub fn one_drawer()
     ensures drawn { (pieces word : ℕ) (views : List View) → Tickets pieces word views → (x : ℕ) → x < word →
         (seat : ℕ) × (v : View) × IsAt views seat v × (times x v.drawn ≡ 1) × ((j : ℕ) (u : View) → j ≢ seat → IsAt views j u → times x u.drawn ≡ 0) }
