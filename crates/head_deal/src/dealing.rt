@@ -1,4 +1,4 @@
-//! Items dealt to the slots of workers.
+//! Deals: items dealt to the slots of workers.
 
 ghost use Rattle.std.specs.Prelude.{◌≡◌, ℕ, ◌==◌, All, filter, min, ◌+◌, ◌*◌, ◌/◌, ◌^◌, ◌++◌, ◌∷◌, [], ◌<◌, ◌≤◌, ◌↔◌, length, map, List, Ok, None, IsOk, IsTrue, IfOk, OnOk, OnErr, IfErr, IsErrAnd, slice_get, Some, true, ◌%◌, ◌≢◌, slice_index_or, vec_capacity};
 ghost use Rattle.head_deal.specs.Jobs.{Job, Queued, is_queued};
@@ -15,48 +15,48 @@ use crate::{Builder, Stepped};
 use std::alloc::{AllocError, Global};
 use std::marker::Model;
 
-// The most slots that a deal grows to: with 64 workers more their count still fits in a `usize`.
+// The limit of a deal's slots: plus 64, for the workers, it still fits in a `usize`.
 const MOST_SLOTS: usize = usize::MAX - 64;
 
-/// Why no deal was made.
+/// Why a deal was not made.
 #[derive(Debug, Clone, Copy, PartialEq, Eq)]
 pub enum DealFault {
     /// A deal has at least one worker.
     NoWorkers,
     /// A deal has at most 64 workers.
     TooManyWorkers,
-    /// There was not enough memory.
+    /// Out of memory.
     Memory,
 }
 
-/// A deal that was not made, with the builders handed back.
+/// The error of `Deal::new`, with the builders that were passed in.
 #[derive(Drop)]
 pub struct DealRefused<B> {
     pub builders: Vec<B>,
     pub fault: DealFault,
 }
 
-/// Why no slot was added.
+/// Why a slot was not added.
 #[derive(Debug, Clone, Copy, PartialEq, Eq)]
 pub enum AddFault {
-    /// The deal has 2^64 - 65 slots. It takes no more.
+    /// The deal has 2^64 - 65 slots, the most that it can have.
     Full,
-    /// There was not enough memory.
+    /// Out of memory.
     Memory,
 }
 
-/// A builder that got no slot, handed back.
+/// The error of `Deal::add`, with the builder that was passed in.
 #[derive(Drop)]
 pub struct AddRefused<B> {
     pub builder: B,
     pub fault: AddFault,
 }
 
-/// Items dealt to builders, each to the slot of its own. Slot s belongs to worker s mod workers, and each worker has the items of
-/// its slots, in the order in which they were dealt.
+/// Builders in slots, and items dealt to the slots. Slot s belongs to worker s mod `workers`, and each worker has the items of its slots,
+/// in the order of dealing.
 ///
-/// Items are either applied here, by `step`, or the deal is taken apart by `into_parts`, so that each worker runs its part alone.
-/// Either way each slot and each item ends alike.
+/// Items are applied by `step`, or `into_parts` takes the deal apart and each worker runs its part alone. The final values of the slots
+/// and the outcomes of the items are the same both ways.
 pub struct Deal<B: Builder> {
     pub(crate) tag: u64,
     pub(crate) workers: usize,
@@ -66,7 +66,7 @@ pub struct Deal<B: Builder> {
     pub(crate) parts: Vec<Part<B>>,
 }
 
-// Written out: where another function drops one, its proof has one call, and not a copy of this.
+// Written out so that the proof of a function that drops one has one call, and not a copy of this.
 impl<B: Builder> Drop for Deal<B> {
     fn drop(self) {
         let Deal {
@@ -93,8 +93,10 @@ impl<B: Builder> Model for Deal<B> {
 }
 
 impl<B: Builder> Deal<B> {
-    /// A deal of no items to these builders. Slot s belongs to worker s mod `workers`, of which there are 1 to 64. The tag tells
-    /// the parts of this deal from those of others. Where it is refused the builders are handed back.
+    /// Returns a deal of no items, with one slot for each builder. Slot s belongs to worker s mod `workers`; there are 1 to 64 workers. The
+    /// tag tells the parts of this deal from those of others.
+    ///
+    /// Returns an error, with the builders, if there are no workers or more than 64, or if out of memory.
     pub fn new(
         alloc: Global,
         tag: u64,
@@ -126,7 +128,7 @@ impl<B: Builder> Deal<B> {
         Deal::deal_to(alloc, tag, workers, builders)
     }
 
-    // A deal of one worker, whose builders are all of them, where they are.
+    // Returns a deal of one worker, which has all builders in place.
     fn deal_alone(alloc: Global, tag: u64, builders: Vec<B>) -> Result<Deal<B>, DealRefused<B>>
         ensures deal { IfOk result (λ d. d ≡ record { tag = tag; workers = 1; builders = builders.items; jobs = [] }) }
         ensures memory { IfErr result (λ e. e.fault ≡ DealFault.Memory) }
@@ -185,29 +187,30 @@ impl<B: Builder> Deal<B> {
         }
     }
 
-    /// How many slots there are: a builder each.
+    /// Returns the number of slots, each of which has a builder.
     pub fn slots(&self) -> usize
         ensures { result ≡ length self.now.builders }
     {
         self.slots
     }
 
-    /// How many workers there are.
+    /// Returns the number of workers.
     pub fn workers(&self) -> usize
         ensures { result ≡ self.now.workers }
     {
         self.workers
     }
 
-    /// How many items were dealt. With 2^32 a deal takes no more: whoever has more begins a new deal.
+    /// Returns the number of items that were dealt. A deal takes at most 2^32; for more, begin a new deal.
     pub fn items(&self) -> usize
         ensures { result ≡ length self.now.jobs }
     {
         self.count
     }
 
-    /// A slot more behind the others, with this builder. What was dealt ends as it would without it. The builder is handed back where
-    /// memory ran out or the deal has as many slots as it can have, and nothing else is changed.
+    /// Adds a slot after the others, with this builder. The endings of the items that were dealt are unchanged.
+    ///
+    /// Returns an error, with the builder and the deal unchanged, if out of memory or if the deal has 2^64 - 65 slots.
     pub fn add(&mut self, builder: B) -> Result<(), AddRefused<B>>
         ensures added { OnOk result (self.new ≡ record self.old { builders = self.old.builders ++ builder ∷ [] }) }
         ensures slots { OnOk result (end_slots B.after (course B.value self.new) ≡ end_slots B.after (course B.value self.old) ++ (length self.old.builders, B.value builder) ∷ []) }
@@ -245,8 +248,8 @@ impl<B: Builder> Deal<B> {
         }
     }
 
-    /// Deals the item to the slot, behind all that were dealt before. The item is handed back where memory ran out, and nothing
-    /// else is changed.
+    /// Deals an item to a slot, after all that were dealt before. Returns the item as the error, with the deal unchanged, if out of
+    /// memory.
     pub fn deal(&mut self, slot: u32, item: B::Item) -> Result<(), B::Item>
         requires exists { slot < length self.old.builders }
         requires numbered { length self.old.jobs < 2 ^ 32 }
@@ -277,8 +280,8 @@ impl<B: Builder> Deal<B> {
         }
     }
 
-    /// Applies the first item that is left of the worker's to its slot, and says what became of it. Where memory ran out nothing
-    /// that a builder shows is changed.
+    /// Applies the first item that a worker has left to its slot, and returns its outcome. Returns an error, with the values of all
+    /// builders unchanged, if out of memory.
     pub fn step(&mut self, worker: usize) -> Result<Stepped<B::Outcome>, AllocError>
         requires { worker < self.old.workers }
         ensures step { IfOk result (λ s. Step B.after B.outcome worker (course B.value self.old) s (course B.value self.new)) }
@@ -291,7 +294,7 @@ impl<B: Builder> Deal<B> {
         self.parts[worker].step()
     }
 
-    /// The part of each worker, in order. It takes no memory and always succeeds.
+    /// Returns the part of each worker, in order. Allocates nothing, and never fails.
     pub fn into_parts(self) -> Result<Vec<Part<B>>, (Deal<B>, AllocError)>
         ensures ok { IsOk result }
         ensures parts { IfOk result (λ parts. AreShares self parts.items) }
@@ -311,7 +314,7 @@ impl<B: Builder> Deal<B> {
     }
 }
 
-// The seats of the slots that a `u32` can name, and room for one part.
+// Returns the seats of the slots whose numbers fit in a `u32`, and a list with room for one part.
 fn prepare_alone<B: Builder>(
     alloc: Global,
     slots: usize,
@@ -324,7 +327,8 @@ fn prepare_alone<B: Builder>(
     Ok((seats, parts))
 }
 
-// The seats of the slots that a `u32` can name, an empty row with room for its builders for each worker, and room for the parts.
+// Returns the seats of the slots whose numbers fit in a `u32`, for each worker an empty row with room for its builders, and a list with
+// room for the parts.
 fn prepare<B: Builder>(
     alloc: Global,
     workers: usize,
@@ -343,17 +347,17 @@ fn prepare<B: Builder>(
     Ok((seats, rows, parts))
 }
 
-/// What a slot and its items end with rests on that slot's value and its own items alone.
+/// The ending of a slot and of its items depends only on the slot's value and its own items.
 pub fn slots_alone<B: Builder>()
     ensures slots { (t : Course B.Value B.Item B.Outcome) (slot : ℕ) → filter (λ p. p.0 == slot) (end_slots B.after t) ≡ slot_endings B.after (filter (λ p. p.0 == slot) t.slots) (filter (λ job. job.slot == slot) t.jobs) }
     ensures items { (t : Course B.Value B.Item B.Outcome) (slot : ℕ) → filter (λ job. job.slot == slot) (end_jobs B.after B.outcome t) ≡ job_endings B.after B.outcome (filter (λ p. p.0 == slot) t.slots) (filter (λ job. job.slot == slot) t.jobs) }
 {}
 
-/// Whichever workers step, and in whatever order, each slot and each item ends alike.
+/// The endings of slots and items do not depend on which workers step, or in which order.
 ///
-/// No step changes an ending (`kept`). Once every item is done, the slots and the items are as the endings of the first state say:
-/// each item applied to its slot, in the order of dealing (`ended`, and as plain lists `values` and `outcomes`). While an item is
-/// left its worker has one to apply, so that a run can go on (`goes_on`).
+/// No step changes an ending (`kept`). Once every item is done, the slots and the items are the endings of the first state: each item
+/// applied to its slot, in the order of dealing (`ended`; as plain lists `values` and `outcomes`). While an item is left, its worker can
+/// step (`goes_on`).
 pub fn deal_theorem<B: Builder>()
     ensures kept { (workers : List ℕ) (old new : Course B.Value B.Item B.Outcome) → Leads B.after B.outcome workers old new → SameEndings B.after B.outcome old new }
     ensures ended { (workers : List ℕ) (old new : Course B.Value B.Item B.Outcome) → Leads B.after B.outcome workers old new → AllDone new.jobs → (new.slots ≡ end_slots B.after old) × (new.jobs ≡ end_jobs B.after B.outcome old) }

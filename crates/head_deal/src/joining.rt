@@ -1,4 +1,4 @@
-//! Parts joined again.
+//! Joining of parts.
 
 ghost use Rattle.std.specs.Prelude.{◌≡◌, ℕ, ◌==◌, ◌+◌, ◌*◌, ◌^◌, ◌++◌, ◌<◌, ◌≤◌, [], length, map, drop, slice_set, Some, None, replicate, true, false, not, List, Option, IfOk, IfErr, IsErrAnd, IsOk, OnOk, vec_len, vec_capacity};
 ghost use Rattle.std.specs.List.{list_any, flat_map};
@@ -13,29 +13,29 @@ use crate::Builder;
 use crate::parts::{Due, Part};
 use std::alloc::{AllocError, Global};
 
-/// Why parts were not joined. The first of these that holds is answered.
+/// Why parts were not joined: the first of these that holds.
 #[derive(Debug, Clone, Copy, PartialEq, Eq)]
 pub enum JoinFault {
     /// A part has another tag, worker count or slot count than the first.
     Stranger,
-    /// There are two parts of one worker.
+    /// Two parts belong to one worker.
     Doubled,
-    /// A worker has no part, or there is no part at all.
+    /// A worker has no part, or there are no parts.
     Missing,
-    /// Items of a part are left.
+    /// A part has items left.
     Unfinished,
-    /// Nothing else is wrong, and there was not enough memory.
+    /// Out of memory, and nothing else is wrong.
     Memory,
 }
 
-/// What a deal ended with: the builders by slot, and the outcomes of all items in the order of dealing.
+/// The ending of a deal: the builders by slot, and the outcomes of all items in the order of dealing.
 #[derive(Drop)]
 pub struct Joined<B: Builder> {
     pub builders: Vec<B>,
     pub outcomes: Vec<B::Outcome>,
 }
 
-/// Parts that were not joined, handed back.
+/// The error of `join_parts`, with the parts that were passed in.
 #[derive(Drop)]
 pub struct JoinRefused<B: Builder> {
     pub parts: Vec<Part<B>>,
@@ -43,21 +43,21 @@ pub struct JoinRefused<B: Builder> {
 }
 
 impl<B: Builder> Part<B> {
-    // Whether the parts may be of one deal.
+    // Returns whether the parts may be of one deal.
     fn is_alike(&self, other: &Part<B>) -> bool
         ensures { result ≡ is_alike self.now other.now }
     {
         self.tag == other.tag && self.workers == other.workers && self.all_slots == other.all_slots
     }
 
-    /// The worker whose part it is.
+    /// Returns the worker of the part.
     pub fn worker(&self) -> usize
         ensures { result ≡ self.now.worker }
     {
         self.worker
     }
 
-    /// What became of the items that are done, in the order in which they were dealt.
+    /// Returns the outcomes of the items that are done, in the order of dealing.
     pub fn outcomes(&self) -> &[B::Outcome]
         ensures { result.now ≡ outcomes self.now.jobs }
     {
@@ -181,7 +181,7 @@ fn copies<O: Copy>(alloc: Global, outcome: O, count: usize) -> Result<Vec<O>, Al
     Ok(all)
 }
 
-// Room for so many outcomes, filled with the first that there is.
+// Returns a list of `count` copies of the first outcome, or an empty list if there is none.
 fn outcomes_to_write<B: Builder>(
     alloc: Global,
     parts: &[Part<B>],
@@ -218,7 +218,7 @@ fn note_part<B: Builder>(all: &mut Vec<B::Outcome>, part: &Part<B>)
     note_outcomes(all, &part.dues, &part.outcomes, part.workers, part.worker);
 }
 
-// The outcomes of the parts, in the order of their numbers.
+// Returns the outcomes of the parts, in the order of dealing.
 fn ordered_outcomes<B: Builder>(
     alloc: Global,
     parts: &[Part<B>],
@@ -268,7 +268,7 @@ fn seat_builders<B: Drop>(
     }
 }
 
-// Puts it at the place, where the list has that.
+// Puts it at the place, if the list has that place.
 fn put<T: Drop>(list: &mut Vec<T>, place: usize, it: T)
     ensures { list.new.items ≡ slice_set list.old.items place it }
 {
@@ -296,8 +296,10 @@ fn gather<T: Drop>(all: &mut Vec<T>, places: Vec<Option<T>>)
     }
 }
 
-/// The ending of a deal, of all its parts in any order, each run to its end. The parts are taken to be of one deal where their tags are
-/// alike. Where it is refused they are handed back.
+/// Joins all parts of a deal, in any order, each run to its end, and returns the deal's ending. Parts with the same tag are taken to be
+/// of one deal.
+///
+/// Returns an error, with the parts, in the cases of [`JoinFault`].
 pub fn join_parts<B: Builder>(
     alloc: Global,
     parts: Vec<Part<B>>,
@@ -307,7 +309,7 @@ pub fn join_parts<B: Builder>(
     ensures known { (fault : JoinFault) → join_fault parts.items ≡ Some fault → IsErrAnd result (λ e. e.fault ≡ fault) }
     ensures refused { IfErr result (λ e. RefusesJoin parts.items e.fault) }
     ensures handed_back { IfErr result (λ e. e.parts.items ≡ parts.items) }
-    // The part of a lone worker is joined without memory.
+    // Joining the part of a lone worker allocates nothing.
     ensures lone { length parts.items ≡ 1 → join_fault parts.items ≡ None → IsOk result }
 {
     match join_fault(parts.as_slice()) {
@@ -335,7 +337,7 @@ fn join_sound<B: Builder>(
     }
 }
 
-// The part of a lone worker holds all slots in their order, and all items in the order of dealing.
+// Returns the ending of a lone worker's part, which has all slots in order and all items in the order of dealing.
 fn join_one<B: Builder>(part: Part<B>) -> Joined<B>
     ensures worker { part.worker < part.workers }
     ensures builders { result.builders.items ≡ map (λ p. p.1) part.slots }
@@ -365,7 +367,7 @@ fn join_many<B: Builder>(alloc: Global, parts: Vec<Part<B>>) -> Result<Joined<B>
     }
 }
 
-// All that joining takes of memory: the outcomes, a place for each builder, and room for the builders.
+// Allocates all that joining needs: the outcomes, a place for each builder, and room for the builders.
 fn prepare<B: Builder>(
     alloc: Global,
     parts: &[Part<B>],
@@ -381,7 +383,7 @@ fn prepare<B: Builder>(
     Ok((outcomes, places, builders))
 }
 
-/// How many items, and how many slots, the first part says that there are in all.
+/// Returns the number of all items and of all slots, which the first part has noted.
 pub(crate) fn counts<B: Builder>(parts: &[Part<B>]) -> (usize, usize)
     ensures { (result.0 ≡ first_jobs parts.now) × (result.1 ≡ first_slots parts.now) }
 {

@@ -1,12 +1,11 @@
-//! Things that are built item by item, and items dealt to them.
+//! Builders, and items dealt to them by workers.
 //!
-//! What a builder shows after an item, and what becomes of the item, are functions of what it showed before and of the item
-//! alone. So it does not matter who applies the items of one builder, or what happens to other builders meanwhile, as long
-//! as its own items come in their order.
+//! A builder's value after an item, and the item's outcome, depend only on the value before and on the item. So it does not matter who
+//! applies the items of a builder, or what happens to other builders meanwhile, as long as its own items are applied in order.
 //!
-//! A `Deal` has a builder in each slot, and deals items to the slots. Workers share the slots. Each runs its part of the deal alone,
-//! and the parts are joined again: the builders by slot, the outcomes in the order of dealing. They are what the items would give
-//! if they were applied one after another, whatever the number of workers and the order of their steps (`deal_theorem`).
+//! A `Deal` has a builder in each slot, and deals items to the slots. Workers share the slots. Each runs its part of the deal alone, and
+//! the parts are joined again: the builders by slot, the outcomes in the order of dealing. They are the same as if all items were applied
+//! one after another, whatever the number of workers and the order of their steps (`deal_theorem`).
 #![tactic(auto)]
 
 ghost use Rattle.std.specs.Prelude.{◌≡◌, IfOk, OnErr, OnOk};
@@ -25,14 +24,14 @@ pub use dealing::{AddFault, AddRefused, Deal, DealFault, DealRefused, deal_theor
 pub use joining::{JoinFault, JoinRefused, Joined, join_parts};
 pub use parts::{Part, run_part};
 
-/// Something that is built item by item. Its law stands in the clauses of `apply`: the value after an item, and the item's
-/// outcome, are functions of the value before and of the item.
+/// Something that is built item by item. By the clauses of `apply`, the value after an item and the item's outcome are functions of the
+/// value before and of the item.
 pub trait Builder: Drop {
     type Item: Drop;
 
     type Outcome: Copy;
 
-    /// What a builder shows, as far as this law speaks of it.
+    /// The type of a builder's value.
     ghost Value: { Type 0 };
 
     ghost value: { Self → Value };
@@ -40,21 +39,21 @@ pub trait Builder: Drop {
     /// The value after an item.
     ghost after: { Value → Self.Item → Value };
 
-    /// What becomes of an item.
+    /// The outcome of an item.
     ghost outcome: { Value → Self.Item → Self.Outcome };
 
-    /// Takes one item and says what became of it. The value is unchanged where memory ran out.
+    /// Takes an item, and returns its outcome. Returns an error, with the value unchanged, if out of memory.
     fn apply(&mut self, item: &Self::Item) -> Result<Self::Outcome, AllocError>
         ensures changed { OnOk result (value self.new ≡ after (value self.old) item.now) }
         ensures told { IfOk result (λ told. told ≡ outcome (value self.old) item.now) }
         ensures refused { OnErr result (value self.new ≡ value self.old) };
 }
 
-/// What a step did.
+/// What a step of a worker did.
 #[derive(Clone, Copy, Debug, PartialEq, Eq)]
 pub enum Stepped<O> {
-    /// It applied an item, of which this became.
+    /// It applied an item, with this outcome.
     Done(O),
-    /// No item of the worker was left.
+    /// The worker had no item left.
     Empty,
 }

@@ -1,4 +1,4 @@
-//! The part of one worker.
+//! Parts: the builders and items of one worker.
 
 ghost use Rattle.std.specs.Prelude.{◌≡◌, ℕ, ◌<◌, ◌≤◌, ◌+◌, ◌*◌, ◌^◌, ◌++◌, ◌∷◌, [], length, replicate, All, OnOk, OnErr, IfErr, IfOk, slice_index_or, vec_capacity};
 ghost use Rattle.head_deal.specs.Dealing.{strided, share_course, share_lists, SameEndings, AllDone, StoppedAt, FitsIn, Kept, Leads};
@@ -11,7 +11,7 @@ use std::alloc::{AllocError, Global};
 use std::marker::Model;
 use std::mem;
 
-/// An item with its element among its worker's builders, and its number in the order of dealing.
+/// A dealt item: its number in the order of dealing, and the element of its builder among its worker's builders.
 #[derive(Drop)]
 pub(crate) struct Due<I> {
     pub(crate) number: u32,
@@ -19,8 +19,8 @@ pub(crate) struct Due<I> {
     pub(crate) item: I,
 }
 
-/// One worker's part of a deal: the builders of its slots, in rising order, its items in the order of dealing, and the outcomes of
-/// those that are done, which are the first. How many slots and items there are in all is noted when the deal is taken apart.
+/// One worker's part of a deal: the builders of its slots, in ascending order, its items in the order of dealing, and the outcomes of
+/// the first items, which are done. The numbers of all slots and items are noted when the deal is taken apart.
 #[derive(Drop)]
 pub struct Part<B: Builder> {
     pub(crate) tag: u64,
@@ -45,11 +45,11 @@ impl<B: Builder> Model for Part<B> {
     ghost invariant = { λ p. (p.worker < p.workers) × All (λ due. due.element < length p.builders.items) p.dues.items × (length p.outcomes.items ≤ length p.dues.items) × (p.worker + length p.builders.items * p.workers < 2 ^ 64) };
 }
 
-/// Applies each item that is left of the part, in the order of dealing. Where memory ran out it stops at the item that was refused,
-/// and a later call goes on from there.
+/// Applies the items that a part has left, in the order of dealing. Returns an error, and stops at the item that was refused, if out of
+/// memory; a later call goes on from there.
 pub fn run_part<B: Builder>(part: &mut Part<B>) -> Result<(), AllocError>
     ensures kept { Kept B.value B.after B.outcome part.old part.new }
-    // It takes steps of its worker, and does nothing else.
+    // Only steps of its worker are taken.
     ensures steps { (n : ℕ) × Leads B.after B.outcome (replicate n part.old.worker) (share_course B.value part.old) (share_course B.value part.new) }
     ensures done { OnOk result (AllDone part.new.jobs) }
     ensures stopped { OnErr result ((place : ℕ) × StoppedAt part.old.jobs part.new.jobs place) }
@@ -94,7 +94,7 @@ fn run_dues<B: Builder>(
 }
 
 impl<B: Builder> Part<B> {
-    /// Takes an item dealt to the element.
+    /// Adds an item for the builder at an element.
     pub(crate) fn take(&mut self, number: u32, element: u32, item: B::Item) -> Result<(), B::Item>
         requires { element < length self.old.slots }
         ensures taken { OnOk result (self.new ≡ record self.old { jobs = self.old.jobs ++ record { number = number; slot = self.old.worker + element * self.old.workers; state = Queued item } ∷ [] }) }
@@ -111,7 +111,7 @@ impl<B: Builder> Part<B> {
         }
     }
 
-    /// Applies the first item that is left.
+    /// Applies the first item that is left, and returns its outcome.
     pub(crate) fn step(&mut self) -> Result<Stepped<B::Outcome>, AllocError>
         ensures { PartStep B.value B.after B.outcome self.old result self.new }
     {
@@ -134,7 +134,7 @@ impl<B: Builder> Part<B> {
         }
     }
 
-    /// Takes the builder of a slot, which is one stride behind the worker's last.
+    /// Adds the builder of the worker's next slot, one stride after its last.
     pub(crate) fn add(&mut self, slot: usize, builder: B) -> Result<(), B>
         requires next { slot ≡ self.old.worker + length self.old.slots * self.old.workers }
         requires small { slot + self.old.workers < 2 ^ 64 }
@@ -157,7 +157,7 @@ impl<B: Builder> Part<B> {
 }
 
 impl<B: Builder> Part<B> {
-    // Lets go of its items, under another tag. Its lists keep their room.
+    // Drops its items, and takes another tag. Its lists keep their memory.
     fn begin(&mut self, tag: u64)
         ensures { self.new ≡ record self.old { tag = tag; all_jobs = 0; jobs = [] } }
     {
@@ -168,7 +168,7 @@ impl<B: Builder> Part<B> {
     }
 }
 
-/// Has each part let go of its items, under another tag.
+/// Drops the items of each part, and gives the parts another tag.
 pub(crate) fn begin_all<B: Builder>(parts: &mut Vec<Part<B>>, tag: u64)
     ensures each { length parts.new.items ≡ length parts.old.items }
     ensures begun { (k : ℕ) (p : _) → k < length parts.old.items → slice_index_or parts.new.items k p ≡ record (slice_index_or parts.old.items k p) { tag = tag; all_jobs = 0; jobs = [] } }
@@ -178,7 +178,7 @@ pub(crate) fn begin_all<B: Builder>(parts: &mut Vec<Part<B>>, tag: u64)
     }
 }
 
-/// Notes in each part how many slots and items there are in all.
+/// Notes in each part the number of all slots and of all items.
 pub(crate) fn count_in<B: Builder>(parts: &mut Vec<Part<B>>, slots: usize, count: usize)
     ensures each { length parts.new.items ≡ length parts.old.items }
     ensures counted { (k : ℕ) (p : _) → k < length parts.old.items → slice_index_or parts.new.items k p ≡ record (slice_index_or parts.old.items k p) { all_slots = slots; all_jobs = count } }
@@ -188,7 +188,7 @@ pub(crate) fn count_in<B: Builder>(parts: &mut Vec<Part<B>>, slots: usize, count
     }
 }
 
-/// The part of a lone worker, with no items: its builders are all of them.
+/// Returns the part of a lone worker, with all builders and no items.
 pub(crate) fn lone_part<B: Builder>(alloc: Global, tag: u64, builders: Vec<B>) -> Part<B>
     ensures { result ≡ record { tag = tag; workers = 1; worker = 0; all_slots = length builders.items; all_jobs = 0; slots = strided 0 1 builders.items; jobs = [] } }
 {
@@ -204,7 +204,7 @@ pub(crate) fn lone_part<B: Builder>(alloc: Global, tag: u64, builders: Vec<B>) -
     }
 }
 
-/// Makes a part of each row, with no items.
+/// Makes a part of no items out of each row of builders.
 pub(crate) fn build_parts<B: Builder>(
     alloc: Global,
     parts: &mut Vec<Part<B>>,

@@ -1,5 +1,5 @@
-use Rattle.std.proofs.lemmas.List.{length-append}
-use Rattle.std.proofs.Common.{◌+◌, ◌∷◌, [], ◌<◌, ◌≤◌, ◌≡◌, length, arith, refl, sym, ap, ◌∙◌, vec_len, vec_capacity}
+use Rattle.std.proofs.lemmas.List.{length-append, length-set}
+use Rattle.std.proofs.Common.{rules, ◌+◌, ◌∷◌, [], ◌<◌, ◌≤◌, ◌≡◌, length, arith, refl, sym, ap, ◌∙◌, vec_len, vec_capacity}
 use Rattle.std.proofs.lemmas.Result.{err_from_is_err_and}
 use Rattle.head_deal.specs.Entries.{entries}
 use Rattle.head_deal.proofs.Running.{all_done}
@@ -41,20 +41,8 @@ loop-place-preserved g c =
     let longer : length c.push_reserved.new.self.items ≡ c.loop-place.place + 1 = ap length c.push_reserved.ensures.items ∙ length-append c.loop-place.outcomes.items (c.in-Ok.outcome ∷ []) ∙ ap (λ x. x + 1) i.1 in
     (rw c.push_reserved.ensures.items more, longer, rw c.push_reserved.ensures.capacity i.2)
 
-pub returns-in-Err-clause-endings : goal.returns-in-Err-clause-endings
-returns-in-Err-clause-endings g c =
-    let b = g.B.Builder in
-    let i = c.loop-place.invariant in
-    let m : c.len-place-end.result ≡ length c.args.dues.now.items = c.len-place-end.ensures ∙ c.args.dues.now.ok.0 in
-    let test = c.loop-place-test.true in
-    let low : c.loop-place.place < length c.args.dues.now.items = omega arith in
-    let fit = c.requires.fit c.loop-place.place c.index-due.result.now low in
-    let fit' : c.index-due.result.now.element < length c.args.builders.now.items = rw (sym c.index-due.ensures) at fit in
-    let within : c.index-due.result.now.element < length c.loop-place.builders.items = rw i.0.builders fit' in
-    (run_stopped b.value b.after b.outcome c.args.workers c.args.worker c.args.builders.now.items (entries c.args.worker c.args.workers c.args.dues.now.items c.args.outcomes.now.items) c.loop-place.builders.items c.args.dues.now.items c.loop-place.outcomes.items c.loop-place.place c.index-due.result.now c.index_mut-builder.result.now c.apply.new.self c.requires.workers i.1 low c.index-due.ensures c.index_mut-builder.ensures.value within c.in-Err.ensures.refused i.0).0
-
-pub returns-in-Err-clause-stopped : goal.returns-in-Err-clause-stopped
-returns-in-Err-clause-stopped g c =
+pub returns-in-Err : goal.returns-in-Err
+returns-in-Err g c =
     let b = g.B.Builder in
     let i = c.loop-place.invariant in
     let m : c.len-place-end.result ≡ length c.args.dues.now.items = c.len-place-end.ensures ∙ c.args.dues.now.ok.0 in
@@ -64,7 +52,7 @@ returns-in-Err-clause-stopped g c =
     let fit' : c.index-due.result.now.element < length c.args.builders.now.items = rw (sym c.index-due.ensures) at fit in
     let within : c.index-due.result.now.element < length c.loop-place.builders.items = rw i.0.builders fit' in
     let all = run_stopped b.value b.after b.outcome c.args.workers c.args.worker c.args.builders.now.items (entries c.args.worker c.args.workers c.args.dues.now.items c.args.outcomes.now.items) c.loop-place.builders.items c.args.dues.now.items c.loop-place.outcomes.items c.loop-place.place c.index-due.result.now c.index_mut-builder.result.now c.apply.new.self c.requires.workers i.1 low c.index-due.ensures c.index_mut-builder.ensures.value within c.in-Err.ensures.refused i.0 in
-    (c.loop-place.place, all.1)
+    record { endings = all.0; steps = all.2; done = search rules; stopped = (c.loop-place.place, all.1); builders = length-set c.loop-place.builders.items c.index-due.result.now.element c.apply.new.self ∙ i.0.builders; outcomes = omega arith }
 
 pub returns-clause-done : goal.returns-clause-done
 returns-clause-done g c =
@@ -75,19 +63,6 @@ returns-clause-done g c =
 
 pub returns-in_err-reserve-clause-steps : goal.returns-in_err-reserve-clause-steps
 returns-in_err-reserve-clause-steps g c = rw c.in_err-reserve.ensures.items (0, refl)
-
-pub returns-in-Err-clause-steps : goal.returns-in-Err-clause-steps
-returns-in-Err-clause-steps g c =
-    let b = g.B.Builder in
-    let i = c.loop-place.invariant in
-    let m : c.len-place-end.result ≡ length c.args.dues.now.items = c.len-place-end.ensures ∙ c.args.dues.now.ok.0 in
-    let test = c.loop-place-test.true in
-    let low : c.loop-place.place < length c.args.dues.now.items = omega arith in
-    let fit = c.requires.fit c.loop-place.place c.index-due.result.now low in
-    let fit' : c.index-due.result.now.element < length c.args.builders.now.items = rw (sym c.index-due.ensures) at fit in
-    let within : c.index-due.result.now.element < length c.loop-place.builders.items = rw i.0.builders fit' in
-    let all = run_stopped b.value b.after b.outcome c.args.workers c.args.worker c.args.builders.now.items (entries c.args.worker c.args.workers c.args.dues.now.items c.args.outcomes.now.items) c.loop-place.builders.items c.args.dues.now.items c.loop-place.outcomes.items c.loop-place.place c.index-due.result.now c.index_mut-builder.result.now c.apply.new.self c.requires.workers i.1 low c.index-due.ensures c.index_mut-builder.ensures.value within c.in-Err.ensures.refused i.0 in
-    all.2
 
 pub returns-clause-steps : goal.returns-clause-steps
 returns-clause-steps g c = c.loop-place.invariant.0.steps
