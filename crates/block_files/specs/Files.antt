@@ -1,4 +1,4 @@
--- Chunk files: chunks one after another, in files of a limited length, and the references by which they are found.
+-- Chunk files of limited length, and the references of their chunks.
 use Rattle.std.specs.Prelude.{◌≡◌, ℕ, ◌+◌, ◌-◌, ◌*◌, ◌/◌, ◌%◌, ◌≤◌, ◌^◌, List, [], ◌∷◌, ◌++◌, length, map, drop, All, Some, slice_get, nat_le, if◌then◌else◌}
 use Rattle.std.specs.List.{fold, flat_map}
 use Rattle.hw_bytes.specs.Lists.{along}
@@ -7,44 +7,44 @@ use Rattle.hw_bytes.specs.Numbers.{IsUvarint}
 use Rattle.block_text.specs.Sums.{Text, sum_text}
 use Rattle.head_column.specs.declared.chunk.Chunk.{Chunk}
 
--- the byte that says how a chunk's data are encoded
+-- the byte of the encoding of a chunk's data
 abbrev pub encoding : ℕ
 encoding = 0x41
 
--- A chunk in its file: the length of its data, the encoding and the data, and the checksum of these two.
+-- A chunk in its file: the length of its data as a uvarint, the encoding, the data, and the checksum of the encoding and the data.
 abbrev pub chunk_element : Text → Text
 chunk_element body = uvarint (length body) ++ encoding ∷ body ++ sum_text (encoding ∷ body)
 
--- what a chunk file begins with: the magic, the version and three zeros
+-- the header of a chunk file: the magic number, the version and three zeros
 abbrev pub file_head : Text
 file_head = 0x85 ∷ 0xBD ∷ 0x40 ∷ 0xDD ∷ 1 ∷ 0 ∷ 0 ∷ 0 ∷ []
 
--- The files with a chunk more: it goes behind the last one, and begins a file where that would pass the limit.
+-- The files with a chunk appended: to the last file, or to a new one if the last would exceed the limit.
 unfoldable pub with_chunk : ℕ → List Text → Text → List Text
 with_chunk limit [] body = (file_head ++ chunk_element body) ∷ []
 with_chunk limit (f ∷ []) body =
     if nat_le (length f + length (chunk_element body)) limit then (f ++ chunk_element body) ∷ [] else f ∷ (file_head ++ chunk_element body) ∷ []
 with_chunk limit (f ∷ g ∷ more) body = f ∷ with_chunk limit (g ∷ more) body
 
--- The chunk files of some chunks, in order.
+-- The chunk files of chunks, in order.
 abbrev pub chunk_files : ℕ → List Text → List Text
 chunk_files limit chunks = fold (with_chunk limit) [] chunks
 
--- the length of the last of some files
+-- the length of the last file
 abbrev pub last_length : List Text → ℕ
 last_length [] = 0
 last_length (f ∷ []) = length f
 last_length (f ∷ g ∷ more) = last_length (g ∷ more)
 
--- the place of the last chunk of these files: its file, counted from 0, in the high four bytes, and the offset of its length in the low ones
+-- the reference of the last chunk of files: the number of its file, from 0, times 2^32, plus the offset of its length
 abbrev pub last_reference : List Text → Text → ℕ
 last_reference files body = (length files - 1) * 2 ^ 32 + (last_length files - length (chunk_element body))
 
--- The reference of a chunk behind some others.
+-- The reference of a chunk after the chunks `before`.
 unfoldable pub reference_behind : ℕ → List Text → Text → ℕ
 reference_behind limit before body = last_reference (chunk_files limit (before ++ body ∷ [])) body
 
--- the references of a row's chunks, behind those of the rows before it
+-- the references of the chunks of a row after the rows `before`
 abbrev pub row_references : ℕ → List (List Text) → List Text → List ℕ
 row_references limit before row = along (λ others body. reference_behind limit (flat_map (λ r. r) before ++ others) body ∷ []) row
 
@@ -68,29 +68,29 @@ all_texts rows = flat_map (λ r. r) (texts rows)
 abbrev pub longest_chunk : ℕ
 longest_chunk = 2162
 
--- no chunk is longer than 120 samples can be
+-- the data of each chunk are at most as long as those of 120 samples can be
 abbrev pub AreShort : List (List Chunk) → Type 0
 AreShort rows = All (λ body. length body ≤ longest_chunk) (all_texts rows)
 
--- The bytes begin with a chunk of these data: their length in any spelling, the encoding, the data and their checksum.
+-- The bytes begin with a chunk of these data: their length in any spelling of a uvarint, the encoding, the data and the checksum.
 pub record BeginsWith (bytes body : Text) : Type 0 where
   pub spelled : Text
   pub rest : Text
   pub is_length : IsUvarint spelled (length body)
   pub whole : bytes ≡ spelled ++ encoding ∷ body ++ sum_text (encoding ∷ body) ++ rest
 
--- At the reference stands a chunk with these data: in its file, at its offset.
+-- A chunk with these data is at the reference: in its file, at its offset.
 pub record StandsAt (files : List Text) (reference : ℕ) (body : Text) : Type 0 where
   pub file : Text
   pub is_file : slice_get files (reference / 2 ^ 32) ≡ Some file
   pub there : BeginsWith (drop (reference % 2 ^ 32) file) body
 
--- the full files, and behind them the last one, if it has been begun
+-- the full files and the last one, if it has begun
 abbrev pub with_last : List Text → Text → List Text
 with_last full [] = full
 with_last full (b ∷ more) = full ++ (b ∷ more) ∷ []
 
--- What has been written: files, of which each is at most so long, unless it has one chunk.
+-- The value of `ChunkFiles`: the files so far, and the limit of their length.
 pub record Written : Type 0 where
   pub limit : ℕ
   pub files : List Text

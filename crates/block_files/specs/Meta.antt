@@ -1,13 +1,13 @@
--- meta.json: what a block says of itself.
+-- The meta.json of a block.
 use Rattle.std.specs.Prelude.{ℕ, ℤ, pos, [], ◌∷◌, ◌++◌, replicate, unsigned_abs, int_lt, if◌then◌else◌, codes, decimal}
 use Rattle.block_text.specs.Sums.{Text}
 use Rattle.block_files.specs.declared.meta.Meta.{Meta}
 
--- a signed number: a minus before those below 0, and decimal digits
+-- a signed number in decimal digits, with a minus sign if it is negative
 abbrev pub signed_decimal : ℤ → Text
 signed_decimal z = if int_lt z (pos 0) then codes "-" ++ decimal (unsigned_abs z) else decimal (unsigned_abs z)
 
--- a line behind so many tabs
+-- a line that is indented by tabs
 abbrev pub line : ℕ → Text → Text
 line tabs text = replicate tabs 0x09 ++ text ++ 0x0A ∷ []
 
@@ -15,7 +15,7 @@ line tabs text = replicate tabs 0x09 ++ text ++ 0x0A ∷ []
 abbrev pub quoted : Text → Text
 quoted text = 0x22 ∷ text ++ 0x22 ∷ []
 
--- a name and what belongs to it
+-- a name with its value
 abbrev pub member : Text → Text → Text
 member name value = quoted name ++ codes ": " ++ value
 
@@ -40,7 +40,7 @@ meta_text m =
     ++ line 1 (member (codes "version") (codes "1"))
     ++ line 0 (codes "}")
 
--- What stands in the text between the ULID and the ULID again.
+-- The text between the two ULIDs.
 unfoldable pub middle : Meta → Text
 middle m =
     codes "\",\n\t\"minTime\": " ++ (signed_decimal m.min_time ++ (codes ",\n\t\"maxTime\": " ++ (signed_decimal m.max_time ++ (codes ",\n\t\"stats\": {\n\t\t\"numSamples\": " ++ (decimal m.samples

@@ -1,4 +1,4 @@
--- Tombstones: the hidden times of a block's series.
+-- Tombstones: the hidden times of the series of a block.
 use Rattle.std.specs.Prelude.{◌<◌, ◌^◌, List, [], ◌∷◌, ◌++◌, FitsSigned}
 use Rattle.std.specs.List.{flat_map}
 use Rattle.std.specs.Int.{w64}
@@ -6,18 +6,19 @@ use Rattle.hw_bytes.specs.Writing.{uvarint, varint}
 use Rattle.block_text.specs.Sums.{Text, sum_text}
 use Rattle.block_files.specs.declared.tombstones.Tombstone.{Tombstone}
 
--- an entry: the id of the series, and the first and the last hidden time
+-- an entry: the id of the series as a uvarint, the first and the last hidden time as varints
 abbrev pub entry_text : Tombstone → Text
 entry_text t = uvarint t.series ++ varint t.run.min_time ++ varint t.run.max_time
 
+-- the entries, one after another
 abbrev pub entries_text : List Tombstone → Text
 entries_text ts = flat_map entry_text ts
 
--- the magic, and the version
+-- the header: the magic number and the version
 abbrev pub tombstones_head : Text
 tombstones_head = 0x01 ∷ 0x30 ∷ 0xBA ∷ 0x30 ∷ 1 ∷ []
 
--- The text of the tombstones: the head, the entries, and the checksum of all entries.
+-- The text of tombstones: the header, the entries, and the checksum of all entries.
 unfoldable pub tombstones_text : List Tombstone → Text
 tombstones_text ts = tombstones_head ++ entries_text ts ++ sum_text (entries_text ts)
 

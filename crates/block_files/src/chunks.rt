@@ -1,4 +1,4 @@
-//! Chunk files.
+//! Appending chunks to chunk files (chunks.md of the public standard).
 
 ghost use Rattle.std.specs.Prelude.{◌≡◌, ◌≤◌, ◌<◌, ◌+◌, ◌*◌, ◌^◌, ◌++◌, ◌∷◌, [], List, All, map, ◌↔◌, IsTrue, Err, IfOk, OnErr, OnOk, length};
 ghost use Rattle.std.specs.List.{flat_map};
@@ -13,19 +13,19 @@ use hw_bytes::{Items, crc32c, put_be32, put_uvarint};
 use std::alloc::{AllocError, Global};
 use std::marker::Model;
 
-/// The most bytes of a chunk file in a block.
+/// The limit of the length of a chunk file in a block, in bytes.
 pub const CHUNK_FILE_LIMIT: u32 = 536_870_912;
 
-// What a file begins with: the magic, the version and three zeros.
+// the header of a file: the magic number, the version and three zeros
 const HEAD: [u8; 8] = [0x85, 0xBD, 0x40, 0xDD, 1, 0, 0, 0];
 
-// How a chunk's data are encoded.
+// the encoding of a chunk's data
 pub(crate) const ENCODING: u8 = 0x41;
 
-// How many files there may be.
+// how many files a block can have
 const MOST_FILES: usize = 0x1_0000_0000;
 
-// How many bytes a chunk takes in its file.
+// Returns how many bytes a chunk with these data takes in its file.
 #[tactic(auto, unfolding(hw_bytes::specs::Writing::uvarint, hw_bytes::specs::Writing::uvarint_in, block_text::specs::Sums::sum_text))]
 fn chunk_len(data: &[u8]) -> usize
     requires { length «data».now ≤ longest_chunk }
@@ -35,7 +35,7 @@ fn chunk_len(data: &[u8]) -> usize
     spelled + 1 + data.len() + 4
 }
 
-// Puts a chunk behind the bytes of its file.
+// Appends a chunk to its file.
 #[tactic(auto, unfolding(block_text::specs::Sums::sum_text))]
 fn put_chunk(file: &mut Vec<u8>, data: &[u8]) -> Result<(), AllocError>
     ensures put { OnOk result (file.new.items ≡ file.old.items ++ chunk_element «data».now) }
@@ -49,7 +49,7 @@ fn put_chunk(file: &mut Vec<u8>, data: &[u8]) -> Result<(), AllocError>
     put_be32(file, sum)
 }
 
-// Begins a file behind the others.
+// Begins a new last file, and moves the previous one to the full files.
 fn begin_file(
     alloc: Global,
     full: &mut Vec<Items<u8>>,
@@ -74,7 +74,7 @@ fn begin_file(
     Ok(())
 }
 
-// Whether a file that has been begun has room for so many bytes more.
+// Returns whether the file has begun and can take `len` more bytes.
 fn has_room(limit: u32, file: &[u8], len: usize) -> bool
     ensures { IsTrue result ↔ (0 < length file.now) × (length file.now + len ≤ limit) }
 {
@@ -82,7 +82,7 @@ fn has_room(limit: u32, file: &[u8], len: usize) -> bool
     !file.is_empty() && file.len() <= limit && len <= limit - file.len()
 }
 
-// Begins a file where the last one has no room for a chunk of so many bytes, with its length and its checksum.
+// Begins a new last file if the current one has no room for a chunk of `len` bytes, which include its length and checksum.
 fn make_room(
     alloc: Global,
     limit: u32,
@@ -107,7 +107,7 @@ fn make_room(
     Ok(())
 }
 
-// Puts a chunk behind the others. Its reference.
+// Appends a chunk to the files, and returns its reference.
 pub(crate) fn add_chunk(
     alloc: Global,
     limit: u32,

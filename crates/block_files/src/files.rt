@@ -1,4 +1,4 @@
-//! Chunk files, written row by row.
+//! Writing chunk files row by row.
 
 ghost use Rattle.std.specs.Prelude.{◌≡◌, ◌≤◌, ◌<◌, ◌^◌, ◌++◌, ◌∷◌, [], List, All, map, Err, IfOk, OnOk, length};
 ghost use Rattle.std.specs.List.{flat_map};
@@ -12,14 +12,14 @@ use hw_bytes::Items;
 use std::alloc::{AllocError, Global};
 use std::marker::Model;
 
-/// Chunk files that are being written. Contracts see the files, and how long each may be. Where rows of chunks are added, the files
-/// are `chunk_files` of all their chunks so far.
+/// A writer of chunk files. Contracts see the files so far and the limit of their length. After rows were added, the files are the
+/// `chunk_files` of all their chunks.
 #[derive(Debug, Drop)]
 pub struct ChunkFiles {
     limit: u32,
-    // The files that are full.
+    // the full files
     full: Vec<Items<u8>>,
-    // The last one, empty where none has been begun.
+    // the last file, empty if no file has begun
     last: Vec<u8>,
 }
 
@@ -35,7 +35,7 @@ impl Model for ChunkFiles {
 }
 
 impl ChunkFiles {
-    /// No file yet.
+    /// Makes a writer of files of at most `limit` bytes. A file with a single chunk can be longer. There is no file until the first chunk.
     pub fn new(alloc: Global, limit: u32) -> ChunkFiles
         ensures limit { result.limit ≡ limit }
         ensures none { result.files ≡ [] }
@@ -47,7 +47,7 @@ impl ChunkFiles {
         }
     }
 
-    // Puts a chunk behind the others. Its reference.
+    // Appends a chunk, and returns its reference.
     fn add(&mut self, alloc: Global, chunk: &Chunk) -> Result<u64, WriteFault>
         requires { length chunk.now.text ≤ longest_chunk }
         ensures limit { self.new.limit ≡ self.old.limit }
@@ -64,7 +64,7 @@ impl ChunkFiles {
         )
     }
 
-    /// Puts the chunks of a row behind those of the rows before it. Their references. After a fault some of them may have been added.
+    /// Appends the chunks of a row, and returns their references. If an error is returned, some of the chunks may have been added.
     pub fn add_row(&mut self, alloc: Global, row: &[Chunk]) -> Result<Vec<u64>, WriteFault>
         requires short { All (λ body. length body ≤ longest_chunk) (row_texts row.now) }
         ensures limit { self.new.limit ≡ self.old.limit }
@@ -83,7 +83,7 @@ impl ChunkFiles {
         Ok(found)
     }
 
-    /// The files.
+    /// Returns the files.
     pub fn into_files(self) -> Result<Vec<Items<u8>>, AllocError>
         ensures files { IfOk result (λ files. files.items ≡ self.files) }
         ensures few { IfOk result (λ files. length files.items ≤ 2 ^ 32) }
@@ -96,12 +96,12 @@ impl ChunkFiles {
     }
 }
 
-/// The chunk files of the chunks of some rows, in the order of the rows, and for each row the references of its chunks.
+/// Writes the chunk files of rows of chunks, and returns them with the references of the chunks of each row.
 ///
-/// A file begins with the magic `85BD40DD`, the version 1 and three zeros. A chunk there is the length of its data as a uvarint, the
-/// encoding `41`, the data, and the CRC-32C of the encoding and the data. A file is begun where the next chunk would make the last one
-/// longer than `limit` bytes. A reference is the file, counted from 0, times 2^32, and the offset of the chunk's length. No chunk gives
-/// no file.
+/// A file begins with the magic number `85BD40DD`, the version 1 and three zeros. A chunk is the length of its data as a uvarint, the
+/// encoding `41`, the data, and the CRC-32C of the encoding and the data. A new file is begun if the next chunk would make the last
+/// one longer than `limit` bytes. A reference is the number of the file, from 0, times 2^32, plus the offset of the chunk's length. If
+/// there are no chunks, there are no files.
 pub fn write_chunks(
     alloc: Global,
     rows: &[Items<Chunk>],

@@ -1,4 +1,4 @@
-//! The chunk at the front of some bytes, and the one at a reference.
+//! Reading a chunk by its reference.
 
 ghost use Rattle.std.specs.Prelude.{◌≡◌, IfSome, IfNone};
 ghost use Rattle.block_text.specs.Sums.{Text};
@@ -7,7 +7,7 @@ ghost use Rattle.block_files.specs.Files.{BeginsWith, StandsAt};
 use crate::chunks::ENCODING;
 use hw_bytes::{Items, be32_at, crc32c, uvarint_at};
 
-// The data of the chunk at the front, lent.
+// Reads a chunk at the front of bytes, and returns its data.
 fn front_chunk(bytes: &[u8]) -> Option<&[u8]>
     ensures found { IfSome result (λ body. BeginsWith bytes.now body.now) }
     ensures none { IfNone result ((body : Text) → BeginsWith bytes.now body → ⊥) }
@@ -29,8 +29,8 @@ fn front_chunk(bytes: &[u8]) -> Option<&[u8]>
     Some(data)
 }
 
-/// The data of the chunk at a reference, lent out of its file: that of the chunk's number, from the offset on. `None` where no such file is
-/// there, or no chunk with its checksum stands at the offset.
+/// Returns the data of the chunk at a reference, borrowed from its file. Returns `None` if there is no such file, or no chunk with a valid
+/// checksum at the offset.
 pub fn chunk_at(files: &[Items<u8>], reference: u64) -> Option<&[u8]>
     ensures found { IfSome result (λ body. StandsAt files.now reference body.now) }
     ensures none { IfNone result ((body : Text) → StandsAt files.now reference body → ⊥) }

@@ -1,4 +1,4 @@
-//! The parts of a block beside its index: chunk files, tombstones and meta.json, each as a text, and read again.
+//! Writing and reading the parts of a block besides its index: chunk files, tombstones and meta.json.
 #![tactic(auto)]
 
 mod chunks;

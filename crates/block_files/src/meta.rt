@@ -1,4 +1,4 @@
-//! meta.json.
+//! The meta.json of a block.
 
 ghost use Rattle.std.specs.Prelude.{◌≡◌, Some, IfOk, string_bytes};
 ghost use Rattle.block_files.specs.declared.meta.Meta.{Meta as Description};
@@ -8,26 +8,26 @@ ghost use Rattle.block_files.specs.Ulids.{IsUlid};
 use crate::ulid::Ulid;
 use std::alloc::{AllocError, Global};
 
-/// What a block says of itself.
+/// The description of a block.
 #[derive(Clone, Copy, Debug, PartialEq, Eq)]
 pub struct Meta {
     pub ulid: Ulid,
-    /// The time at which its hour begins, in milliseconds.
+    /// The first millisecond of its hour.
     pub min_time: i64,
-    /// The time at which its hour has ended, in milliseconds: the first one past it.
+    /// The first millisecond after its hour.
     pub max_time: i64,
-    /// How many samples it has.
+    /// The number of its samples.
     pub samples: u64,
-    /// How many series it has.
+    /// The number of its series.
     pub series: u64,
-    /// How many chunks it has.
+    /// The number of its chunks.
     pub chunks: u64,
 }
 
-// How many bytes stand in front of the ULID.
+// the offset of the ULID in the text
 const ULID_AT: usize = 12;
 
-// What stands between the ULID and the ULID again.
+// Writes the text between the two ULIDs.
 fn numbers_of(alloc: Global, meta: &Meta) -> Result<String, AllocError>
     ensures { IfOk result (λ text. string_bytes text ≡ middle meta.now) }
 {
@@ -45,7 +45,7 @@ fn numbers_of(alloc: Global, meta: &Meta) -> Result<String, AllocError>
     Ok(text)
 }
 
-/// The text of meta.json: one member a line, a tab for each level, and a newline behind each line.
+/// Writes meta.json: one member on each line, a tab for each level, and a newline after each line.
 pub fn write_meta(alloc: Global, meta: &Meta) -> Result<Vec<u8>, AllocError>
     ensures { IfOk result (λ text. text.items ≡ meta_text meta.now) }
 {
@@ -59,7 +59,7 @@ pub fn write_meta(alloc: Global, meta: &Meta) -> Result<Vec<u8>, AllocError>
     Ok(text)
 }
 
-/// The ULID that the text of a meta.json names. Of other bytes the answer is not said.
+/// Returns the ULID in the text of a meta.json. For other bytes the result is not specified.
 pub fn ulid_of(text: &[u8]) -> Option<Ulid>
     ensures { (meta : Description) → IsUlid meta.ulid → text.now ≡ meta_text meta → result ≡ Some meta.ulid }
 {

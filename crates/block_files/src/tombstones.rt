@@ -1,4 +1,4 @@
-//! Tombstones, as a text and read again.
+//! Writing and reading tombstones (tombstones.md of the public standard).
 
 ghost use Rattle.std.specs.Prelude.{◌≡◌, ◌<◌, ◌++◌, List, All, length, Err, IfOk, IfSome, MatchOption, OnOk};
 ghost use Rattle.block_text.specs.Sums.{Text};
@@ -13,21 +13,21 @@ use std::alloc::{AllocError, AllocFailed, Global};
 use std::error::Error;
 use std::fmt;
 
-/// A run of hidden times of a series.
+/// A hidden range of times of a series.
 #[derive(Clone, Copy, Debug, PartialEq, Eq)]
 pub struct Tombstone {
     /// The id of the series in the block's index.
     pub series: u64,
-    /// The hidden times, ends included.
+    /// The hidden times, both ends included.
     pub run: Run,
 }
 
-/// Why bytes were not read as tombstones.
+/// The error of reading tombstones.
 #[derive(Clone, Copy, Debug, PartialEq, Eq)]
 pub enum TombstonesFault {
-    /// The bytes are not what `write_tombstones` writes.
+    /// The bytes are not the text of any tombstones.
     BadTombstones,
-    /// Memory ran out.
+    /// Out of memory.
     Memory,
 }
 
@@ -64,13 +64,13 @@ impl<T: Drop> From<AllocFailed<T>> for TombstonesFault {
     }
 }
 
-// The magic, and the version.
+// the magic number and the version
 const HEAD: [u8; 5] = [0x01, 0x30, 0xBA, 0x30, 1];
 
-// How many bytes a checksum has.
+// the length of a checksum in bytes
 const SUM_LEN: usize = 4;
 
-// Puts an entry behind the bytes.
+// Appends an entry.
 fn put_entry(bytes: &mut Vec<u8>, tombstone: &Tombstone) -> Result<(), AllocError>
     ensures { OnOk result (bytes.new.items ≡ bytes.old.items ++ entry_text tombstone.now) }
 {
@@ -79,7 +79,7 @@ fn put_entry(bytes: &mut Vec<u8>, tombstone: &Tombstone) -> Result<(), AllocErro
     put_varint(bytes, tombstone.run.max_time)
 }
 
-// The entries, one after another.
+// Writes all entries.
 fn write_entries(alloc: Global, tombstones: &[Tombstone]) -> Result<Vec<u8>, AllocError>
     ensures { IfOk result (λ text. text.items ≡ entries_text tombstones.now) }
 {
@@ -90,8 +90,8 @@ fn write_entries(alloc: Global, tombstones: &[Tombstone]) -> Result<Vec<u8>, All
     Ok(entries)
 }
 
-/// The text of these tombstones: the magic `0130BA30`, the version 1, an entry for each (the id of the series as a uvarint, the first
-/// and the last hidden time as varints), and the CRC-32C of all entries.
+/// Writes tombstones: the magic number `0130BA30`, the version 1, an entry for each (the id of the series as a uvarint, the first and the
+/// last hidden time as varints), and the CRC-32C of all entries.
 #[tactic(auto, unfolding(crate::specs::Tombstones::tombstones_text))]
 pub fn write_tombstones(alloc: Global, tombstones: &[Tombstone]) -> Result<Vec<u8>, AllocError>
     ensures { IfOk result (λ text. text.items ≡ tombstones_text tombstones.now) }
@@ -104,7 +104,7 @@ pub fn write_tombstones(alloc: Global, tombstones: &[Tombstone]) -> Result<Vec<u
     Ok(text)
 }
 
-// The entry at the front, and the bytes behind it.
+// Reads an entry, and returns it with the bytes after it.
 fn front_entry(bytes: &[u8]) -> Option<(Tombstone, &[u8])>
     ensures again { (t : Entry) (rest : Text) → IsFit t → bytes.now ≡ entry_text t ++ rest → MatchOption result ⊥ (λ found. (found.0 ≡ t) × (found.1.now ≡ rest)) }
     ensures fit { IfSome result (λ found. IsFit found.0) }
@@ -117,7 +117,7 @@ fn front_entry(bytes: &[u8]) -> Option<(Tombstone, &[u8])>
     Some((Tombstone { series, run }, rest))
 }
 
-// The entries of which these bytes are the text, if they are one.
+// Reads entries up to the end of the bytes. The spellings of their numbers are not checked.
 fn read_entries(alloc: Global, bytes: &[u8]) -> Result<Vec<Tombstone>, TombstonesFault>
     ensures found { IfOk result (λ found. (tombstones : List Entry) → All IsFit tombstones → bytes.now ≡ entries_text tombstones → found.items ≡ tombstones) }
     ensures fit { IfOk result (λ found. All IsFit found.items) }
@@ -135,15 +135,15 @@ fn read_entries(alloc: Global, bytes: &[u8]) -> Result<Vec<Tombstone>, Tombstone
     Ok(tombstones)
 }
 
-/// The tombstones of which the bytes are the text. `BadTombstones` where the bytes are not what `write_tombstones` writes for any:
-/// another magic, version or checksum, an entry that ends too soon, a longer spelling of a number.
+/// Reads tombstones. If the bytes are not exactly what `write_tombstones` writes for them, `BadTombstones` is returned: the magic number,
+/// the version or the checksum is wrong, an entry is cut off, or a number is not in its shortest form.
 pub fn read_tombstones(alloc: Global, bytes: &[u8]) -> Result<Vec<Tombstone>, TombstonesFault>
     ensures found { IfOk result (λ tombstones. bytes.now ≡ tombstones_text tombstones.items) }
     ensures fit { IfOk result (λ tombstones. All IsFit tombstones.items) }
     ensures only { (tombstones : List Entry) → All IsFit tombstones → bytes.now ≡ tombstones_text tombstones → IfOk result (λ read. read.items ≡ tombstones) }
     ensures bad { result ≡ Err TombstonesFault.BadTombstones →
         (tombstones : List Entry) → All IsFit tombstones → bytes.now ≡ tombstones_text tombstones → ⊥ }
-    // Fewer bytes than the magic, the version and the checksum take are refused whatever memory there is.
+    // Whether bytes are too short for the magic number, the version and the checksum does not depend on memory.
     ensures short { length bytes.now < 9 → result ≡ Err TombstonesFault.BadTombstones }
 {
     if bytes.len() < HEAD.len() + SUM_LEN {

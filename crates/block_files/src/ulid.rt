@@ -1,4 +1,4 @@
-//! Names of blocks.
+//! The names of blocks.
 
 ghost use Rattle.std.specs.Prelude.{◌≡◌, IfOk, OnErr};
 ghost use Rattle.block_files.specs.Ulids.{IsUlid, is_digit as is_digit_of};
@@ -7,20 +7,20 @@ use std::error::Error;
 use std::fmt;
 use std::marker::Model;
 
-// Whether the byte is a digit of Crockford's base 32, in upper case.
+// Returns whether the byte is a digit of Crockford's base 32 in upper case.
 fn is_digit(byte: u8) -> bool
     ensures { result ≡ is_digit_of byte }
 {
     matches!(byte, b'0'..=b'9' | b'A'..=b'Z') && !matches!(byte, b'I' | b'L' | b'O' | b'U')
 }
 
-/// The name of a block: 26 digits of Crockford's base 32 in upper case, the first at most `7`. Contracts see it as its text.
+/// The name of a block: 26 digits of Crockford's base 32 in upper case, the first at most `7`. Contracts see its text.
 #[derive(Clone, Copy, Debug, PartialEq, Eq)]
 pub struct Ulid {
     digits: [u8; 26],
 }
 
-/// Why a text is no ULID.
+/// The error of parsing a ULID.
 #[derive(Clone, Copy, Debug, PartialEq, Eq)]
 pub struct BadUlid;
 
@@ -46,7 +46,7 @@ impl Model for Ulid {
 }
 
 impl Ulid {
-    /// The ULID of this text.
+    /// Parses a ULID.
     pub fn new(text: &str) -> Result<Ulid, BadUlid>
         ensures some { IfOk result (λ ulid. ulid ≡ text.now) }
         ensures bad { OnErr result (IsUlid text.now → ⊥) }
@@ -54,7 +54,7 @@ impl Ulid {
         Ulid::from_bytes(text.as_bytes())
     }
 
-    /// The ULID of these bytes.
+    /// Parses a ULID from bytes.
     pub fn from_bytes(text: &[u8]) -> Result<Ulid, BadUlid>
         ensures some { IfOk result (λ ulid. ulid ≡ text.now) }
         ensures bad { OnErr result (IsUlid text.now → ⊥) }
@@ -67,7 +67,7 @@ impl Ulid {
         Ok(Ulid { digits })
     }
 
-    /// Its 26 digits, lent. By `held` a caller learns what holds of every ULID.
+    /// Borrows its 26 digits. The clause `held` says what holds of every ULID.
     pub fn as_bytes(&self) -> &[u8]
         ensures digits { result.now ≡ self.now }
         ensures held { IsUlid self.now }

@@ -1,15 +1,15 @@
-//! Why a text was not written.
+//! The error of writing a part of a block.
 
 use std::alloc::{AllocError, AllocFailed};
 use std::error::Error;
 use std::fmt;
 
-/// Why a part of a block has no text.
+/// The error of writing a part of a block.
 #[derive(Clone, Copy, Debug, PartialEq, Eq)]
 pub enum WriteFault {
-    /// A number is past what its four bytes hold.
+    /// A number does not fit in its four bytes.
     TooLarge,
-    /// Memory ran out.
+    /// Out of memory.
     Memory,
 }
 

@@ -1,4 +1,4 @@
-//! What the texts of a block's parts have in common: the checksum behind a text, and why a text was not written.
+//! What all parts of a block use: the checksum that follows a text, and the error of writing.
 #![tactic(auto)]
 
 mod fault;

@@ -1,4 +1,4 @@
-//! Checksums behind texts.
+//! Checksums that follow texts.
 
 ghost use Rattle.std.specs.Prelude.{◌≡◌, ◌↔◌, ◌≤◌, ◌^◌, ◌++◌, length, Err, IfOk, OnOk, OnErr};
 ghost use Rattle.block_text.specs.Sums.{sum_text, sums};
@@ -7,7 +7,7 @@ use crate::fault::WriteFault;
 use hw_bytes::{be32_at, crc32c, put_be32};
 use std::alloc::AllocError;
 
-/// The number, where four bytes hold it; else it is too large.
+/// Converts a number to 32 bits. If it does not fit, `TooLarge` is returned.
 pub fn four_bytes_of(number: usize) -> Result<u32, WriteFault>
     ensures same { IfOk result (λ m. m ≡ number) }
     ensures large { result ≡ Err WriteFault.TooLarge ↔ 2 ^ 32 ≤ number }
@@ -19,7 +19,7 @@ pub fn four_bytes_of(number: usize) -> Result<u32, WriteFault>
     Ok(number as u32)
 }
 
-/// Puts the checksum of a text behind some bytes: its CRC-32C, big-endian in four bytes.
+/// Appends the checksum of `text` to `bytes`: its CRC-32C in four bytes, big-endian. If memory runs out, `bytes` is unchanged.
 #[tactic(auto, unfolding(crate::specs::Sums::sum_text))]
 pub fn put_sum(bytes: &mut Vec<u8>, text: &[u8]) -> Result<(), AllocError>
     ensures put { OnOk result (bytes.new.items ≡ bytes.old.items ++ sum_text text.now) }
@@ -28,7 +28,7 @@ pub fn put_sum(bytes: &mut Vec<u8>, text: &[u8]) -> Result<(), AllocError>
     put_be32(bytes, crc32c(text))
 }
 
-/// Whether the first `len` bytes are followed by their checksum.
+/// Returns whether the first `len` bytes are followed by their checksum.
 pub fn is_summed(bytes: &[u8], len: usize) -> bool
     requires { len ≤ length bytes.now }
     ensures { result ≡ sums len bytes.now }

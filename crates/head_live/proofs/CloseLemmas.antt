@@ -8,7 +8,6 @@ use Rattle.std.proofs.lemmas.Grind.{flat_map-append}
 use Rattle.std.proofs.lemmas.List.{append-nil, length-take-le, map-append, take_more}
 use Rattle.std.proofs.lemmas.List.Elements.{filter-append}
 use Rattle.std.proofs.lemmas.Bool.Decides.{Decides-eqb, Decides-int_eq}
-use Rattle.std.proofs.lemmas.List.Sums.{sum_by-append}
 use Rattle.std.proofs.lemmas.Option.{unwrap_or-slice_get}
 use Rattle.wal_record.specs.Labels.{Labels, same_labels}
 use Rattle.head_column.specs.declared.items.Sample.{Sample}
@@ -20,12 +19,13 @@ use Rattle.head_core.specs.Heads.{history_at}
 use Rattle.head_live.specs.declared.placed.PlacedSample.{PlacedSample}
 use Rattle.head_live.specs.declared.told.Told.{Told}
 use Rattle.head_live.specs.declared.verdict.Verdict.TheVariants.{Accepted}
-use Rattle.head_live.specs.Closing.{all_told, new_rows_at, row_of_sample, shares}
-use Rattle.head_live.specs.Placing.{labels_at, row_at}
+use Rattle.head_live.specs.Closing.{all_told, new_rows_at, row_of_sample}
+use Rattle.head_live.specs.Placing.{labels_at, placed, row_at}
 use Rattle.head_live.specs.Rows.{Row}
 use Rattle.head_live.specs.Told.{Answer, AppenderState, accepted_rows, answer_of, is_accepted, row_told}
 use Rattle.head_live.specs.Verdicts.{samples_in, samples_at}
 use Rattle.head_live.proofs.SetLemmas.{at_place}
+use Rattle.head_live.proofs.OrderLemmas.{placed_whole}
 use Rattle.head_live.proofs.TimeLemmas.{reaches_greatest}
 
 pub accepted_rows-append : (a b : List Answer) → accepted_rows (a ++ b) ≡ accepted_rows a ++ accepted_rows b
@@ -41,12 +41,16 @@ pub mapped_at : {A B : Type 0} (f : A → B) (xs : List A) (i : ℕ) (d : A) →
 mapped_at f xs i d h = ap (map f) (take_more xs i d h) ∙ map-append f (take i xs) (get_or xs i d ∷ [])
 
 -- behind what stands in a list so far
-pub pushed_more : {A B : Type 0} (f : A → B) (new old : List A) (x : A) (start rows more : List B) → new ≡ old ++ x ∷ [] → map f old ≡ start ++ rows → more ≡ rows ++ f x ∷ [] → map f new ≡ start ++ more
-pushed_more f new old x start rows more e h m =
-    ap (map f) e
-    ∙ (map-append f old (x ∷ [])
-    ∙ (ap (λ r. r ++ f x ∷ []) h
-    ∙ (append_assoc start rows (f x ∷ []) ∙ ap (λ r. start ++ r) (sym m))))
+pub pushed_more : {A : Type 0} (new old : List A) (x : A) (start rows more : List A) → new ≡ old ++ x ∷ [] → old ≡ start ++ rows → more ≡ rows ++ x ∷ [] → new ≡ start ++ more
+pushed_more new old x start rows more e h m = e ∙ (ap (λ r. r ++ x ∷ []) h ∙ (append_assoc start rows (x ∷ []) ∙ ap (λ r. start ++ r) (sym m)))
+
+-- the rows of the samples of a slot more
+pub placed_rows : (c : Content) (slot : ℕ) (new old : List PlacedSample) (xs : List Sample) → new ≡ old ++ map (placed slot) xs
+    → map (row_at c) new ≡ map (row_at c) old ++ map (row_of_sample (labels_at c slot)) xs
+placed_rows c slot new old xs e = ap (map (row_at c)) e ∙ (map-append (row_at c) old (map (placed slot) xs) ∙ ap (λ r. map (row_at c) old ++ r) (rows xs)) where
+  rows : (ys : List Sample) → map (row_at c) (map (placed slot) ys) ≡ map (row_of_sample (labels_at c slot)) ys
+  rows [] = refl
+  rows (y ∷ ys) = ap (λ r. row_of_sample (labels_at c slot) y ∷ r) (rows ys)
 
 -- ---- a row that was told
 
@@ -69,8 +73,8 @@ reached_times [] t = refl
 reached_times (x ∷ xs) t = ap (λ b. int_le t x.time || b) (reached_times xs t)
 
 -- the samples of the series in which a label set is found
-pub found_reached : (c : Content) (l : Labels) (slot : ℕ) (t : ℤ) → place (same_labels l) c.table.series ≡ Some slot → reaches (latest (history_at c slot).samples) t ≡ true → has_reached (samples_in c l) t ≡ true
-found_reached c l slot t p h =
+pub found_reached : (c : Content) (l : Labels) (slot : ℕ) (t : ℤ) (b : Bool) → place (same_labels l) c.table.series ≡ Some slot → reaches (latest (history_at c slot).samples) t ≡ b → has_reached (samples_in c l) t ≡ b
+found_reached c l slot t b p h =
     ap (λ o. has_reached (samples_at c o) t) p
     ∙ (reached_times (history_at c slot).samples t
     ∙ (reaches_greatest (map (λ s. s.time) (history_at c slot).samples) t ∙ h))
@@ -124,9 +128,6 @@ told_more_by all i x h is =
     ap all_told (take_more all i x h)
     ∙ (flat_map-append (λ (a : AppenderState). a.told) (take i all) (get_or all i x ∷ []) ∙ ap (λ r. all_told (take i all) ++ r) one)
 
-pub shares-push : (xs : List AppenderState) (x : AppenderState) → shares (xs ++ x ∷ []) ≡ shares xs + x.share
-shares-push xs x = let e = sum_by-append (λ (a : AppenderState). a.share) xs (x ∷ []) in omega (arith, e)
-
 -- equal numbers are equal samples
 pub placed_eq : (a b : PlacedSample) → Decides (nat_eq a.slot b.slot && (int_eq a.time b.time && int_eq a.value b.value)) (a ≡ b)
 placed_eq a b = (to, back) where
@@ -134,16 +135,11 @@ placed_eq a b = (to, back) where
   parts true q h = (refl, h)
   parts false q h = absurd cc
 
-  whole : a.slot ≡ b.slot → a.time ≡ b.time → a.value ≡ b.value → a ≡ b
-  whole p q r =
-      ap (λ n. record { slot = n; time = a.time; value = a.value }) p
-      ∙ (ap (λ t. record { slot = b.slot; time = t; value = a.value }) q ∙ ap (λ v. record { slot = b.slot; time = b.time; value = v }) r)
-
   to : (nat_eq a.slot b.slot && (int_eq a.time b.time && int_eq a.value b.value)) ≡ true → a ≡ b
   to h =
       let first = parts (nat_eq a.slot b.slot) (int_eq a.time b.time && int_eq a.value b.value) h in
       let rest = parts (int_eq a.time b.time) (int_eq a.value b.value) first.1 in
-      whole ((Decides-eqb a.slot b.slot).0 first.0) ((Decides-int_eq a.time b.time).0 rest.0) ((Decides-int_eq a.value b.value).0 rest.1)
+      placed_whole a b ((Decides-eqb a.slot b.slot).0 first.0) ((Decides-int_eq a.time b.time).0 rest.0) ((Decides-int_eq a.value b.value).0 rest.1)
 
   both : (p q : Bool) → p ≡ true → q ≡ true → (p && q) ≡ true
   both true q h k = k

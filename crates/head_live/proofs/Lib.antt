@@ -6,6 +6,8 @@ pub mod RowLemmas
 pub mod JudgeLemmas
 pub mod StartLemmas
 pub mod PrepareLemmas
+pub mod OrderLemmas
 pub mod CloseLemmas
+pub mod DifferLemmas
 pub mod TellLemmas
 pub mod Sends

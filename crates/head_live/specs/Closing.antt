@@ -1,4 +1,4 @@
--- What holds of a run of a shared head that was closed.
+-- What it means that a run of a shared head is closed.
 use Rattle.std.specs.Prelude.{◌≡◌, ℕ, ◌+◌, true, List, All, drop, length, map}
 use Rattle.std.specs.List.{flat_map, enumerate_from, sum_by}
 use Rattle.std.specs.List.Sorted.{IsPermutation}
@@ -17,39 +17,44 @@ use Rattle.head_live.specs.Told.{Answer, AppenderState, accepted_rows}
 abbrev pub row_of_sample : Labels → Sample → Row
 row_of_sample l s = record { labels = l; time = s.time; value = s.value }
 
--- the samples of a slot past those that it had at the opening, as rows
+-- the rows of the samples of a slot since the opening
 abbrev pub new_rows_at : Content → Content → ℕ × Labels → List Row
 new_rows_at opening now slot = map (row_of_sample slot.1) (drop (length (history_at opening slot.0).samples) (history_at now slot.0).samples)
 
--- the samples of all series past those of the opening, as rows
+-- the rows of the samples of all series since the opening, by slot
 abbrev pub new_rows : Content → Content → List Row
 new_rows opening now = flat_map (new_rows_at opening now) (enumerate_from 0 now.table.series)
 
--- where the row was told to be stale, there is a sample of its labels at or past its time
+-- if the row was told to be stale, its series has a sample at or past its time
 abbrev pub IsStaleIn : Content → Answer → Type 0
 IsStaleIn c a = a.verdict ≡ Stale → has_reached (samples_in c a.row.labels) a.row.time ≡ true
 
--- What was told is what the head holds: the rows told to be accepted are the samples past those of the opening, each once, and each row told to be stale
--- has a sample at or past its time.
+-- What was told agrees with the head: the rows told to be accepted are the samples since the opening, each once, and the series of each
+-- row told to be stale has a sample at or past its time.
 pub record Agrees (opening now : Content) (told : List Answer) : Type 0 where
   pub once : IsPermutation (accepted_rows told) (new_rows opening now)
   pub stale : All (IsStaleIn now) told
 
--- what all appenders were told, one after another
+-- what all appenders were told, one appender after another
 abbrev pub all_told : List AppenderState → List Answer
 all_told appenders = flat_map (λ a. a.told) appenders
 
+-- the sum of the shares of appenders
 abbrev pub shares : List AppenderState → ℕ
 shares appenders = sum_by (λ a. a.share) appenders
 
--- What contracts see of the live head under the lock: the moment at which the run began, the present one, and how many appenders were made.
+-- The value of `Held`: the moment at which the run began, the current moment, and the number of appenders.
 pub record HeldState : Type 0 where
   pub opening : Moment
   pub now : Moment
   pub appenders : ℕ
 
--- A run ended with this live head: its log leads there from the opening, so many rows were accepted as all shares come to, so much the count of accepted
--- samples grew, and what was told is what the head holds.
+-- the live head under the lock
+abbrev pub held_live : HeldState → LiveState
+held_live held = record { opening = held.opening; now = held.now }
+
+-- A run is closed with this live head and this number of accepted rows: the log leads from the opening to the live head, the number is
+-- the sum of all shares and the growth of the count of accepted samples, and what was told agrees with the head.
 pub record Closes (opening : Moment) (live : LiveState) (accepted : ℕ) (appenders : List AppenderState) : Type 0 where
   pub leads : Leads opening live.now
   pub sum : accepted ≡ shares appenders

@@ -1,4 +1,4 @@
--- Words of private functions and of proofs: the entries that rows make, and what is kept while rows are judged.
+-- Words of private functions and of proofs: the entries of rows, and the state while rows are judged.
 use Rattle.std.specs.Prelude.{◌≡◌, ℕ, ℤ, ◌+◌, ◌≤◌, ◌<◌, ◌^◌, List, [], ◌∷◌, All, Option, None, Some, false, length, map, nat_lt, slice_index_or, if◌then◌else◌}
 use Rattle.std.specs.Option.{option_map, option_and_then}
 use Rattle.hw_bytes.specs.Lists.{or_else}
@@ -16,7 +16,7 @@ use Rattle.head_live.specs.Rows.{Row}
 use Rattle.head_live.specs.Verdicts.{accepted, times_of, verdicts}
 use Rattle.head_live.specs.Batch.{AreReferences, first_reference, is_missing, new_sets, owner_in, sample_of, series_from}
 
--- the entries of what is logged of the rows
+-- the entries that an append of the rows logs
 pub record IsBatch (c : Content) (rows : List Row) (series : List SeriesEntry) (samples : List SampleEntry) : Type 0 where
   pub known : Labels → Option ℕ
   pub references : AreReferences c known (map (λ r. r.labels) (accepted c rows))
@@ -24,44 +24,46 @@ pub record IsBatch (c : Content) (rows : List Row) (series : List SeriesEntry) (
   pub series_are : series ≡ series_from (first_reference c) (new_sets known (accepted c rows))
   pub samples_are : samples ≡ map (sample_of known (first_reference c) (new_sets known (accepted c rows))) (accepted c rows)
 
--- ---- what one row changes
+-- ---- the change by one row
 
 -- the reference, if it has 64 bits
 abbrev pub small : ℕ → Option ℕ
 small n = if nat_lt n (2 ^ 64) then Some n else None
 
+-- the reference after this one
 abbrev pub one_past : Option ℕ → Option ℕ
 one_past None = None
 one_past (Some n) = small (n + 1)
 
--- the next reference once a label set of this reference, or of none, was named
+-- the next reference after an accepted row of a label set with this reference, or with none
 abbrev pub left_by : Option ℕ → Option ℕ → Option ℕ
 left_by None next = one_past next
 left_by (Some r) next = next
 
--- the new series of a label set of this reference, or of none
+-- the new series by an accepted row of a label set with this reference, or with none
 abbrev pub entry_by : Option ℕ → Option ℕ → Labels → List SeriesEntry
 entry_by None None l = []
 entry_by None (Some n) l = record { reference = n; labels = l } ∷ []
 entry_by (Some r) next l = []
 
+-- the sample of an accepted row with this reference
 abbrev pub sample_by : Option ℕ → ℤ → ℤ → List SampleEntry
 sample_by None t v = []
 sample_by (Some r) t v = record { reference = r; time = t; value = v } ∷ []
 
--- what stands for a label set behind a row of it
+-- the state of a label set after a row of it
 abbrev pub standing_after : Standing → Option ℕ → ℤ → Standing
 standing_after s next t = if reaches s.last t then s else record { reference = or_else s.reference next; last = Some t }
 
--- the next reference behind a row
+-- the next reference after a row
 abbrev pub next_after : Standing → Option ℕ → ℤ → Option ℕ
 next_after s next t = if reaches s.last t then next else left_by s.reference next
 
--- the new series that a row makes
+-- the new series by a row
 abbrev pub entry_after : Standing → Option ℕ → Labels → ℤ → List SeriesEntry
 entry_after s next l t = if reaches s.last t then [] else entry_by s.reference next l
 
--- the sample that a row makes
+-- the sample by a row
 abbrev pub sample_after : Standing → Option ℕ → ℤ → ℤ → List SampleEntry
 sample_after s next t v = if reaches s.last t then [] else sample_by (or_else s.reference next) t v
 
@@ -69,33 +71,35 @@ sample_after s next t v = if reaches s.last t then [] else sample_by (or_else s.
 abbrev pub verdict_after : Standing → ℤ → Verdict
 verdict_after s t = if reaches s.last t then Stale else Accepted
 
--- ---- what stands for label sets
+-- ---- the states of label sets
 
+-- the state of a label set that the head has not seen
 abbrev pub no_standing : Standing
 no_standing = record { reference = None; last = None }
 
+-- the state of the label set with this index
 abbrev pub standing_at : List Standing → ℕ → Standing
 standing_at ss i = slice_index_or ss i no_standing
 
--- what stands for a label set in the head
+-- the state of a label set before the first row
 pub record IsStart (c : Content) (l : Labels) (s : Standing) : Type 0 where
   pub reference : IsLeast (λ r. owner_in c r ≡ Some l) s.reference
   pub last : s.last ≡ greatest (times_of c [] l)
 
--- what stands for each label set in the head
+-- the states of label sets before the first row
 pub record AreStarts (c : Content) (sets : List Labels) (ss : List Standing) : Type 0 where
   pub many : length ss ≡ length sets
   pub each : (i : ℕ) → i < length sets → IsStart c (slice_index_or sets i []) (standing_at ss i)
 
--- the reference of a label set, by its place among these
+-- the reference of a label set by these states
 abbrev pub known_in : List Labels → List Standing → Labels → Option ℕ
 known_in sets ss l = option_and_then (λ i. (standing_at ss i).reference) (place (same_labels l) sets)
 
--- the reference of a label set so far: the one that it has, or else the one that it got
+-- the reference of a label set after some accepted rows: its reference in the head, or else the one that it got as a new label set
 abbrev pub given : (Labels → Option ℕ) → ℕ → List Labels → Labels → Option ℕ
 given known first new l = or_else (known l) (option_map (λ n. first + n) (place (same_labels l) new))
 
--- What is kept while rows are judged, behind some of them, of which these are accepted.
+-- The state while rows are judged, after the rows `before`, of which `taken` are accepted.
 pub record Judges (c : Content) (sets : List Labels) (known : Labels → Option ℕ) (before taken : List Row) (ss : List Standing) (next : Option ℕ)
     (said : List Verdict) (series : List SeriesEntry) (samples : List SampleEntry) : Type 0 where
   pub taken_are : taken ≡ accepted c before

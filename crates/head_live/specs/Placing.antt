@@ -1,18 +1,41 @@
 -- Words of private functions and of proofs: samples with the slots of their series.
-use Rattle.std.specs.Prelude.{List, [], ℕ, length, map, slice_get, unwrap_or}
+use Rattle.std.specs.Prelude.{◌≡◌, ◌<◌, ◌<ℤ◌, ◌⊎◌, List, [], None, ℕ, All, length, map, slice_get, unwrap_or}
+use Rattle.wal_record.specs.Labels.{Labels, same_labels}
+use Rattle.head_column.specs.declared.items.Sample.{Sample}
+use Rattle.head_series.specs.Texts.{place}
 use Rattle.head_core.specs.Content.{Content}
 use Rattle.head_live.specs.declared.placed.PlacedSample.{PlacedSample}
+use Rattle.head_live.specs.declared.verdict.Verdict.TheVariants.{Accepted}
+use Rattle.head_live.specs.Closing.{IsStaleIn}
 use Rattle.head_live.specs.Rows.{Row}
-use Rattle.wal_record.specs.Labels.{Labels}
+use Rattle.head_live.specs.Told.{Answer}
 
 -- the labels of the series in a slot
 abbrev pub labels_at : Content → ℕ → Labels
 labels_at c slot = unwrap_or (slice_get c.table.series slot) []
 
--- the row of a sample in a slot
+-- the row of a placed sample
 abbrev pub row_at : Content → PlacedSample → Row
 row_at c s = record { labels = labels_at c s.slot; time = s.time; value = s.value }
+
+-- a sample, placed in a slot
+abbrev pub placed : ℕ → Sample → PlacedSample
+placed slot s = record { slot = slot; time = s.time; value = s.value }
+
+-- the slots of the samples are those of series
+abbrev pub AreInSeries : Content → List PlacedSample → Type 0
+AreInSeries c samples = All (λ s. s.slot < length c.table.series) samples
+
+-- the first sample has a lower slot, or the same slot and an earlier time
+abbrev pub IsBefore : PlacedSample → PlacedSample → Type 0
+IsBefore a b = (a.slot < b.slot) ⊎ ((a.slot ≡ b.slot) × (a.time <ℤ b.time))
 
 -- how many samples each series has
 abbrev pub sample_counts : Content → List ℕ
 sample_counts c = map (λ h. length h.samples) c.histories
+
+-- The head can hold a row with this verdict: if it was told to be accepted, its labels have a series, and if it was told to be stale, its
+-- series has a sample at or past its time.
+pub record IsPossible (c : Content) (a : Answer) : Type 0 where
+  pub series : a.verdict ≡ Accepted → place (same_labels a.row.labels) c.table.series ≡ None → ⊥
+  pub stale : IsStaleIn c a

@@ -1,4 +1,4 @@
--- Words of private functions and of proofs: the labels of one row, and when they are refused.
+-- Words of private functions and of proofs: the labels of one row, and their errors.
 use Rattle.std.specs.Prelude.{◌≡◌, ℕ, List, Vec, map}
 use Rattle.std.specs.Global.{Global}
 use Rattle.wal_record.specs.declared.labels.LabelFault.{LabelFault}
@@ -12,13 +12,13 @@ use Rattle.head_live.specs.Rows.{IsNoLabelSet}
 abbrev pub labels_of : List (Vec ℕ Global × Vec ℕ Global) → Labels
 labels_of pairs = map (λ p. label_of p.0.items p.1.items) pairs
 
--- why labels are not read: they are no label set, or memory ran out
+-- the error of building a label set: the labels are none, or out of memory
 abbrev pub IsRefusedSet : Labels → LabelFault → Type 0
 IsRefusedSet labels label.EmptyName = IsNoLabelSet labels label.EmptyName
 IsRefusedSet labels label.NotAscending = IsNoLabelSet labels label.NotAscending
 IsRefusedSet labels label.Memory = Unit {0}
 
--- the same of the row in this place
+-- the error of building the label set of the row with this index
 abbrev pub IsRefusedAt : ℕ → Labels → PrepareFault → Type 0
 IsRefusedAt place labels (prepare.Labels row fault) = (row ≡ place) × IsNoLabelSet labels fault
 IsRefusedAt place labels prepare.Memory = Unit {0}

@@ -1,4 +1,4 @@
--- What is said of rows, one after another.
+-- The verdicts on rows.
 use Rattle.std.specs.Prelude.{ℕ, ℤ, Bool, List, [], ◌∷◌, ◌++◌, Option, None, Some, filter, int_le, map, if◌then◌else◌}
 use Rattle.std.specs.List.{list_any}
 use Rattle.hw_bytes.specs.Lists.{along}
@@ -11,24 +11,24 @@ use Rattle.head_live.specs.declared.verdict.Verdict.{Verdict}
 use Rattle.head_live.specs.declared.verdict.Verdict.TheVariants.{Accepted, Stale}
 use Rattle.head_live.specs.Rows.{Row}
 
--- the samples in a slot, if there is one
+-- the samples in a slot, or none without a slot
 abbrev pub samples_at : Content → Option ℕ → List Sample
 samples_at c None = []
 samples_at c (Some slot) = (history_at c slot).samples
 
--- the samples that the head has of a label set
+-- the samples of a label set in the head
 abbrev pub samples_in : Content → Labels → List Sample
 samples_in c l = samples_at c (place (same_labels l) c.table.series)
 
--- the times of a label set so far: those of its samples in the head, and those of its rows before
+-- the times of a label set before a row: those of its samples in the head, and those of its rows before
 abbrev pub times_of : Content → List Row → Labels → List ℤ
 times_of c before l = map (λ s. s.time) (samples_in c l) ++ map (λ r. r.time) (filter (λ r. same_labels l r.labels) before)
 
--- A row is stale where a sample of its label set before it has an equal or later time.
+-- A row is stale if its label set has an equal or later time before it.
 abbrev pub is_stale : Content → List Row → Row → Bool
 is_stale c before r = list_any (λ t. int_le r.time t) (times_of c before r.labels)
 
--- what is said of each row, in order
+-- the verdict on each row, in order
 abbrev pub verdicts : Content → List Row → List Verdict
 verdicts c rows = along (λ before r. (if is_stale c before r then Stale else Accepted) ∷ []) rows
 

@@ -1,11 +1,14 @@
-//! Whether what was told is what a head holds.
+//! The comparison of the answered rows of a run with the samples of its head.
 
-ghost use Rattle.std.specs.Prelude.{◌≡◌, ◌++◌, ◌∷◌, ◌<◌, [], All, IfOk, OnOk, drop, false, length, map, true};
+ghost use Rattle.std.specs.Prelude.{◌≡◌, ◌++◌, ◌∷◌, ◌<◌, [], All, AllPairs, IfOk, OnOk, drop, false, length, map, true};
 ghost use Rattle.std.specs.List.Sorted.{IsPermutation};
+ghost use Rattle.wal_record.specs.Labels.{same_labels};
+ghost use Rattle.head_column.specs.Samples.{Rises};
+ghost use Rattle.head_series.specs.Rows.{AreDistinct};
 ghost use Rattle.head_core.specs.Content.{Content};
 ghost use Rattle.head_core.specs.Heads.{history_at};
-ghost use Rattle.head_live.specs.Closing.{Agrees, IsStaleIn, all_told, new_rows, row_of_sample};
-ghost use Rattle.head_live.specs.Placing.{labels_at, row_at, sample_counts};
+ghost use Rattle.head_live.specs.Closing.{Agrees, IsStaleIn, all_told, new_rows};
+ghost use Rattle.head_live.specs.Placing.{AreInSeries, IsBefore, IsPossible, placed, row_at, sample_counts};
 ghost use Rattle.head_live.specs.Told.{accepted_rows, answer_of};
 
 use crate::appender::Appender;
@@ -17,12 +20,15 @@ use crate::verdict::Verdict;
 use head_core::{Head, Slot};
 use std::alloc::{AllocError, Global};
 
-// Adds a row that was accepted, with the slot of its series. Whether the row can stand in the head: one that was accepted has a series,
-// and one that was stale a sample at or past its time.
+// Adds an accepted row to `accepted`. Returns false if the head can't hold the row: an accepted row has no series, or the series of a
+// stale row has no sample at or past its time.
 fn place_row(head: &Head, row: &Told, accepted: &mut Vec<PlacedSample>) -> Result<bool, AllocError>
     requires { head.now.failed ≡ false }
-    ensures rows { IfOk result (λ stands. stands ≡ true → map (row_at head.now.content) accepted.new.items ≡ map (row_at head.now.content) accepted.old.items ++ accepted_rows (answer_of row.now ∷ [])) }
+    ensures rows { IfOk result (λ stands. stands ≡ true →
+        map (row_at head.now.content) accepted.new.items ≡ map (row_at head.now.content) accepted.old.items ++ accepted_rows (answer_of row.now ∷ [])) }
     ensures stale { IfOk result (λ stands. stands ≡ true → IsStaleIn head.now.content (answer_of row.now)) }
+    ensures impossible { IfOk result (λ stands. stands ≡ false → IsPossible head.now.content (answer_of row.now) → ⊥) }
+    ensures slots { OnOk result (AreInSeries head.now.content accepted.old.items → AreInSeries head.now.content accepted.new.items) }
 {
     let Some(slot) = head.find(&row.labels) else {
         return Ok(false);
@@ -40,15 +46,18 @@ fn place_row(head: &Head, row: &Told, accepted: &mut Vec<PlacedSample>) -> Resul
     }
 }
 
-// Adds the accepted ones of these rows, as long as each can stand in the head.
+// Adds the accepted rows to `accepted`. Returns false at the first row that the head can't hold.
 fn place_rows(
     head: &Head,
     told: &[Told],
     accepted: &mut Vec<PlacedSample>,
 ) -> Result<bool, AllocError>
     requires { head.now.failed ≡ false }
-    ensures rows { IfOk result (λ stand. stand ≡ true → map (row_at head.now.content) accepted.new.items ≡ map (row_at head.now.content) accepted.old.items ++ accepted_rows (map answer_of told.now)) }
+    ensures rows { IfOk result (λ stand. stand ≡ true →
+        map (row_at head.now.content) accepted.new.items ≡ map (row_at head.now.content) accepted.old.items ++ accepted_rows (map answer_of told.now)) }
     ensures stale { IfOk result (λ stand. stand ≡ true → All (IsStaleIn head.now.content) (map answer_of told.now)) }
+    ensures impossible { IfOk result (λ stand. stand ≡ false → All (IsPossible head.now.content) (map answer_of told.now) → ⊥) }
+    ensures slots { OnOk result (AreInSeries head.now.content accepted.old.items → AreInSeries head.now.content accepted.new.items) }
 {
     for row in told {
         if !place_row(head, row, accepted)? {
@@ -58,7 +67,7 @@ fn place_rows(
     Ok(true)
 }
 
-// Adds the samples of a slot but for so many.
+// Adds the samples of a slot to `all`, without the first `first` of them.
 fn add_samples(
     head: &Head,
     slot: u32,
@@ -67,7 +76,8 @@ fn add_samples(
 ) -> Result<(), AllocError>
     requires sound { head.now.failed ≡ false }
     requires slot { slot < length head.now.content.table.series }
-    ensures { OnOk result (map (row_at head.now.content) all.new.items ≡ map (row_at head.now.content) all.old.items ++ map (row_of_sample (labels_at head.now.content slot)) (drop first (history_at head.now.content slot).samples)) }
+    ensures samples { OnOk result (all.new.items ≡ all.old.items ++ map (placed slot) (drop first (history_at head.now.content slot).samples)) }
+    ensures rises { OnOk result (Rises (history_at head.now.content slot).samples) }
 {
     let samples = head.samples(Slot::new(slot))?;
     for sample in &samples[first.min(samples.len())..] {
@@ -80,14 +90,17 @@ fn add_samples(
     Ok(())
 }
 
-// The samples of a head past so many of each series, by slot.
+// Collects the samples of a head by slot and time, without the first ones of each slot, of which `opened` has the number.
 fn new_samples(
     alloc: Global,
     head: &Head,
     opened: &[usize],
 ) -> Result<Vec<PlacedSample>, AllocError>
     requires { head.now.failed ≡ false }
-    ensures { IfOk result (λ new. (opening : Content) → opened.now ≡ sample_counts opening → map (row_at head.now.content) new.items ≡ new_rows opening head.now.content) }
+    ensures rows { IfOk result (λ new. (opening : Content) → opened.now ≡ sample_counts opening → map (row_at head.now.content) new.items ≡ new_rows opening head.now.content) }
+    ensures order { IfOk result (λ new. AllPairs IsBefore new.items) }
+    ensures slots { IfOk result (λ new. AreInSeries head.now.content new.items) }
+    ensures distinct { OnOk result (AreDistinct same_labels head.now.content.table.series) }
 {
     let series = head.series();
     let mut all = Vec::new(alloc);
@@ -98,16 +111,17 @@ fn new_samples(
     Ok(all)
 }
 
-// Whether the same samples stand in both lists.
+// Returns whether two lists have the same samples. The second must be in order.
 fn are_same(mut accepted: Vec<PlacedSample>, new: &[PlacedSample]) -> bool
-    ensures { result ≡ true → IsPermutation accepted.items new.now }
+    ensures same { result ≡ true → IsPermutation accepted.items new.now }
+    ensures differ { result ≡ false → AllPairs IsBefore new.now → IsPermutation accepted.items new.now → ⊥ }
 {
-    // the new ones stand in order, by slot and time
     accepted.sort_unstable();
     accepted.as_slice() == new
 }
 
-/// Whether what was told is what the head holds past so many samples of each series.
+/// Returns whether the accepted rows of all appenders are exactly the samples of the head past the opening, each once, and whether the
+/// series of each stale row has a sample at or past its time. `opened` has the number of samples of each slot at the opening.
 pub(crate) fn agrees<K: HeadRun>(
     alloc: Global,
     head: &Head,
@@ -115,7 +129,8 @@ pub(crate) fn agrees<K: HeadRun>(
     appenders: &[Appender<K>],
 ) -> Result<bool, AllocError>
     requires { head.now.failed ≡ false }
-    ensures { IfOk result (λ same. same ≡ true → (opening : Content) → opened.now ≡ sample_counts opening → Agrees opening head.now.content (all_told appenders.now)) }
+    ensures same { IfOk result (λ same. same ≡ true → (opening : Content) → opened.now ≡ sample_counts opening → Agrees opening head.now.content (all_told appenders.now)) }
+    ensures differ { IfOk result (λ same. same ≡ false → (opening : Content) → opened.now ≡ sample_counts opening → Agrees opening head.now.content (all_told appenders.now) → ⊥) }
 {
     let mut accepted = Vec::new(alloc);
     for appender in appenders {

@@ -1,4 +1,4 @@
-//! What one thread is told of its rows, with its share of what was accepted.
+//! The appender of one thread: its answered rows, and its share of the accepted ones.
 
 ghost use Rattle.std.specs.Prelude.{◌≡◌, ◌+◌, ◌≤◌, ◌++◌, IfOk, length, map, vec_capacity, vec_len};
 ghost use Rattle.head_live.specs.Told.{accepted_count, answer_of, answers, row_told};
@@ -11,7 +11,7 @@ use std::alloc::{AllocError, Global};
 use std::marker::Model;
 use std::sync::ledger::Share;
 
-/// One appender of a shared head: how many of its rows were accepted, and what it was told of each row that was answered.
+/// An appender of a shared head. It keeps the number of its accepted rows, and the verdict on each of its rows.
 #[derive(Drop)]
 pub struct Appender<K: HeadRun> {
     pub(crate) part: Share<K>,
@@ -31,21 +31,21 @@ impl<K: HeadRun> Model for Appender<K> {
 }
 
 impl<K: HeadRun> Appender<K> {
-    /// How many of its rows were accepted.
+    /// Returns the number of its accepted rows.
     pub fn share(&self) -> u64
         ensures { result ≡ self.now.share }
     {
         self.share
     }
 
-    // Makes room for so many rows more, so that under the lock it is there.
+    // Reserves memory for more answered rows, so that this need not happen under the lock.
     pub(crate) fn make_room(&mut self, rows: usize) -> Result<(), AllocError>
         ensures { self.new ≡ self.old }
     {
         self.told.reserve(rows)
     }
 
-    /// The rows that were answered, in order, each with what was said of it.
+    /// Returns its answered rows with their verdicts, in order.
     pub fn told(&self) -> &[Told]
         ensures { map answer_of result.now ≡ self.now.told }
     {
@@ -53,7 +53,7 @@ impl<K: HeadRun> Appender<K> {
     }
 }
 
-/// The rows, as they are to be told. Until they are judged each is said to be stale.
+/// Copies rows into the form in which an appender keeps them. Each has the verdict `Stale` until `tell` sets it.
 pub(crate) fn waiting(alloc: Global, rows: &Prepared) -> Result<Vec<Told>, AllocError>
     ensures { IfOk result (λ waiting. map row_told waiting.items ≡ rows.now) }
 {
@@ -69,7 +69,7 @@ pub(crate) fn waiting(alloc: Global, rows: &Prepared) -> Result<Vec<Told>, Alloc
     Ok(waiting)
 }
 
-/// Tells rows, with what was said of each. There is room for them.
+/// Moves rows to the end of `told`, each with its verdict. It allocates nothing.
 pub(crate) fn tell(told: &mut Vec<Told>, waiting: Vec<Told>, said: &[Verdict])
     requires room { vec_len told.old + length waiting.items ≤ vec_capacity told.old }
     requires each { length said.now ≡ length waiting.items }
@@ -83,7 +83,7 @@ pub(crate) fn tell(told: &mut Vec<Told>, waiting: Vec<Told>, said: &[Verdict])
     }
 }
 
-/// How many were accepted.
+/// Counts the accepted rows.
 pub(crate) fn count_accepted(said: &[Verdict]) -> u64
     ensures { result ≡ accepted_count said.now }
 {

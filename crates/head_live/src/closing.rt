@@ -1,7 +1,7 @@
-//! How a run of a shared head ends.
+//! The end of a run of a shared head.
 
-ghost use Rattle.std.specs.Prelude.{◌≡◌, ◌≢◌, ◌↔◌, ◌+◌, IfErr, IfOk, Some, length, true};
-ghost use Rattle.head_live.specs.Closing.{Closes, shares};
+ghost use Rattle.std.specs.Prelude.{◌≡◌, ◌≢◌, ◌↔◌, ◌+◌, ◌<◌, ℕ, IfErr, IfOk, Some, length, true, vec_capacity};
+ghost use Rattle.head_live.specs.Closing.{Closes, held_live, shares};
 
 use crate::agreeing::agrees;
 use crate::appender::Appender;
@@ -10,27 +10,27 @@ use crate::live::Live;
 use crate::run::HeadRun;
 use std::alloc::Global;
 use std::io::Write;
-use std::sync::ledger::Share;
+use std::sync::ledger::{Book, Share};
 
-/// Why a run was not closed.
+/// The error of closing a run.
 #[derive(Clone, Copy, Debug, PartialEq, Eq)]
 pub enum CloseFault {
-    /// Not all of its appenders are there.
+    /// An appender of the run is missing.
     Missing,
-    /// What the appenders were told is not what the head holds.
+    /// The verdicts that the appenders have don't match the samples of the head.
     Differs,
-    /// Memory ran out.
+    /// Out of memory.
     Memory,
 }
 
-/// A run that ended: the live head as the run left it, and how many rows were accepted in it.
+/// A closed run: its live head, and the number of rows that were accepted.
 #[derive(Drop)]
 pub struct Closed<W: Write + Drop> {
     pub live: Live<W>,
     pub accepted: u64,
 }
 
-// What is handed back where a run was not closed.
+// A run that was not closed, and the error.
 #[derive(Drop)]
 pub(crate) struct HeldRefused<K: HeadRun, W: Write + Drop> {
     pub(crate) held: Held<K, W>,
@@ -38,25 +38,40 @@ pub(crate) struct HeldRefused<K: HeadRun, W: Write + Drop> {
     pub(crate) fault: CloseFault,
 }
 
-// All shares in one.
-fn merge_all<K: HeadRun>(mut rest: Share<K>, appenders: Vec<Appender<K>>) -> Share<K>
-    ensures parts { result.parts ≡ rest.parts + length appenders.items }
-    ensures amount { result.amount ≡ rest.amount + shares appenders.items }
+// Establishes, for the proof, that the book's total is the sum of all shares. Each appender's part is merged into the rest and split
+// off again, so nothing changes.
+fn audit_all<K: HeadRun>(
+    book: &mut Book<K>,
+    rest: &mut Share<K>,
+    mut appenders: Vec<Appender<K>>,
+) -> Vec<Appender<K>>
+    requires some { 0 < rest.old.parts }
+    requires all { rest.old.parts + length appenders.items ≡ K.parts }
+    ensures whole { rest.old.amount + shares appenders.items ≡ book.old.total }
+    ensures total { book.new.total ≡ book.old.total }
+    ensures parts { rest.new.parts ≡ rest.old.parts }
+    ensures amount { rest.new.amount ≡ rest.old.amount }
+    ensures appenders { result.items ≡ appenders.items }
+    ensures room { vec_capacity result ≡ vec_capacity appenders }
 {
-    for appender in appenders {
-        let Appender {
-            part,
-            share: _,
-            told: _,
-        } = appender;
-        rest.merge(part);
-    }
-    rest
+    let Some(appender) = appenders.pop() else {
+        book.audit(rest);
+        return appenders;
+    };
+    let Appender { part, share, told } = appender;
+    rest.merge(part);
+    let mut appenders = audit_all(book, rest, appenders);
+    appenders.push_reserved(Appender {
+        part: rest.split_off(1, share),
+        share,
+        told,
+    });
+    appenders
 }
 
-// Whether the total is known, and this.
+// Returns whether the total is known and equals this number.
 fn is_total(total: Option<u64>, accepted: u64) -> bool
-    ensures { result ≡ true → total ≡ Some accepted }
+    ensures { (result ≡ true) ↔ (total ≡ Some accepted) }
 {
     match total {
         Some(total) => total == accepted,
@@ -64,7 +79,7 @@ fn is_total(total: Option<u64>, accepted: u64) -> bool
     }
 }
 
-// Everything is handed back.
+// Returns everything with the error.
 fn refuse<K: HeadRun, W: Write + Drop>(
     held: Held<K, W>,
     appenders: Vec<Appender<K>>,
@@ -81,10 +96,11 @@ fn refuse<K: HeadRun, W: Write + Drop>(
     }
 }
 
-/// Ends a run, where all its appenders are there and what they were told is what the head holds.
+/// Closes a run. It returns `Missing` if not all of its appenders are here, and otherwise `Differs` only if the run can't be closed:
+/// the clause `closes` holds of no number of accepted rows.
 pub(crate) fn close_held<K: HeadRun, W: Write + Drop>(
     alloc: Global,
-    held: Held<K, W>,
+    mut held: Held<K, W>,
     appenders: Vec<Appender<K>>,
 ) -> Result<Closed<W>, HeldRefused<K, W>>
     requires { K.parts ≡ 1025 }
@@ -93,10 +109,12 @@ pub(crate) fn close_held<K: HeadRun, W: Write + Drop>(
     ensures appenders { IfErr result (λ refused. refused.appenders.items ≡ appenders.items) }
     ensures all { IfOk result (λ _. length appenders.items ≡ held.appenders) }
     ensures missing { IfErr result (λ refused. (refused.fault ≡ CloseFault.Missing) ↔ (length appenders.items ≢ held.appenders)) }
+    ensures differs { IfErr result (λ refused. refused.fault ≡ CloseFault.Differs → (accepted : ℕ) → Closes K.opening (held_live held) accepted appenders.items → ⊥) }
 {
     if appenders.len() as u64 != held.made {
         return Err(refuse(held, appenders, CloseFault::Missing));
     }
+    let appenders = audit_all(&mut held.book, &mut held.rest, appenders);
     match agrees(alloc, held.live.head(), &held.opened, &appenders) {
         Ok(true) => {}
         Ok(false) => return Err(refuse(held, appenders, CloseFault::Differs)),
@@ -110,14 +128,12 @@ pub(crate) fn close_held<K: HeadRun, W: Write + Drop>(
     }
     let Held {
         live,
-        mut book,
-        rest,
+        book: _,
+        rest: _,
         made: _,
         opened: _,
         before: _,
         total: _,
     } = held;
-    // for the proof: the total is the sum of the shares
-    book.audit(&mut merge_all(rest, appenders));
     Ok(Closed { live, accepted })
 }

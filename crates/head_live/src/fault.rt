@@ -1,4 +1,4 @@
-//! Why rows are refused.
+//! Errors of preparing and appending rows.
 
 use head_core::HeadFault;
 use std::alloc::{AllocError, AllocFailed};
@@ -7,12 +7,12 @@ use std::fmt;
 use wal_log::LogFault;
 use wal_record::LabelFault;
 
-/// Why rows were not prepared.
+/// The error of [`Prepared::new`](crate::Prepared::new).
 #[derive(Clone, Copy, Debug, PartialEq, Eq)]
 pub enum PrepareFault {
-    /// The pairs of this row, the first such one, are no label set, for this reason.
+    /// The labels of this row are no label set, for this reason. It is the first such row.
     Labels { row: usize, fault: LabelFault },
-    /// Memory ran out, which says nothing of the rows.
+    /// Out of memory. The rows may be valid or not.
     Memory,
 }
 
@@ -38,20 +38,20 @@ impl<T: Drop> From<AllocFailed<T>> for PrepareFault {
     }
 }
 
-/// Why rows were not appended. Of several reasons the first of these is given, but for memory, which may run out at any point.
+/// The error of an append. If several apply, the first in this list is returned, except that `Memory` can come at any point.
 #[derive(Clone, Copy, Debug, PartialEq, Eq)]
 pub enum AppendFault {
-    /// An earlier call answered `Write`.
+    /// An earlier append returned `Write`.
     Failed,
     /// A new label set would need a reference past 2^64 - 1.
     RefsSpent,
-    /// The head would have more series or label texts than a head may have, or one of its counts could pass 2^64 - 1.
+    /// The head would exceed its limit of series or label texts, or a count could exceed 2^64 - 1.
     Full,
-    /// The records do not fit in what is left of the segment.
+    /// The records do not fit in the rest of the segment.
     SegmentFull,
-    /// Memory ran out, which says nothing of the rows.
+    /// Out of memory. The rows may be valid or not.
     Memory,
-    /// The device gave an error, or took nothing. The head is as before, and takes no more rows.
+    /// The device returned an error, or wrote nothing. The head is unchanged, and every later append returns `Failed`.
     Write,
 }
 

@@ -1,4 +1,4 @@
-//! Rows, judged one after another.
+//! The verdicts on rows.
 
 ghost use Rattle.std.specs.Prelude.{◌≡◌, ◌⊎◌, ◌++◌, ◌∷◌, [], Err, IfErr, IfOk, None, OnOk, Some, false, map};
 ghost use Rattle.hw_bytes.specs.Lists.{or_else};
@@ -17,14 +17,14 @@ use std::alloc::{AllocError, Global};
 use std::sync::Arc;
 use wal_record::{LabelSet, SampleEntry, SeriesEntry};
 
-// What stands for a label set so far: its reference, if it has one, and its greatest time, if it has a sample.
+// The state of a label set between two rows: its reference and its greatest time, if it has any.
 #[derive(Clone, Copy, Debug)]
 struct Standing {
     reference: Option<u64>,
     last: Option<i64>,
 }
 
-/// What was said of rows, and what is to be logged: the new series, and the accepted rows.
+/// The verdicts on rows, with the entries to be logged: the new series and the accepted samples.
 #[derive(Drop)]
 pub(crate) struct Judged {
     pub(crate) verdicts: Vec<Verdict>,
@@ -32,7 +32,7 @@ pub(crate) struct Judged {
     pub(crate) samples: Vec<SampleEntry>,
 }
 
-// What stands for a label set in the head.
+// Looks a label set up in the head.
 fn standing_of(head: &Head, labels: &LabelSet) -> Standing
     requires sound { head.now.failed ≡ false }
     requires distinct { AreDistinct same_labels head.now.content.table.series }
@@ -50,7 +50,7 @@ fn standing_of(head: &Head, labels: &LabelSet) -> Standing
     }
 }
 
-// What stands for each label set in the head.
+// Looks each label set up in the head.
 fn standings(
     alloc: Global,
     head: &Head,
@@ -67,7 +67,7 @@ fn standings(
     Ok(standings)
 }
 
-// The next reference, which there may be none of, is taken.
+// Returns the next reference, if there is one, and advances it. There is none past 2^64 - 1.
 fn take_next(next: &mut Option<u64>) -> Option<u64>
     ensures taken { result ≡ next.old }
     ensures next { next.new ≡ one_past next.old }
@@ -80,7 +80,7 @@ fn take_next(next: &mut Option<u64>) -> Option<u64>
     taken
 }
 
-/// Whether there is a sample of this time or a later one.
+/// Returns whether a series whose greatest time is `last` has a sample at or past `time`.
 pub(crate) fn is_reached(last: Option<i64>, time: i64) -> bool
     ensures { result ≡ reaches last time }
 {
@@ -91,7 +91,7 @@ pub(crate) fn is_reached(last: Option<i64>, time: i64) -> bool
 }
 
 impl Judged {
-    // The reference of a label set that has an accepted row. A new one gets the next.
+    // Returns the reference of a label set with an accepted row. A label set with none gets the next one and becomes a new series.
     fn reference(
         &mut self,
         standing: &mut Standing,
@@ -122,7 +122,7 @@ impl Judged {
         Ok(reference)
     }
 
-    // Judges the next row.
+    // Judges the next row: adds its verdict, and its sample if it is accepted.
     fn take(
         &mut self,
         standing: &mut Standing,
@@ -155,7 +155,7 @@ impl Judged {
     }
 }
 
-/// Judges rows one after another, each as the next sample of the head.
+/// Judges rows in order, each against the head and the accepted rows before it.
 pub(crate) fn judge(alloc: Global, head: &Head, rows: &Prepared) -> Result<Judged, AppendFault>
     requires { head.now.failed ≡ false }
     ensures verdicts { IfOk result (λ judged. judged.verdicts.items ≡ verdicts head.now.content rows.now) }
@@ -163,7 +163,7 @@ pub(crate) fn judge(alloc: Global, head: &Head, rows: &Prepared) -> Result<Judge
     ensures spent { result ≡ Err AppendFault.RefsSpent → AreSpent head.now.content rows.now }
     ensures others { IfErr result (λ fault. (fault ≡ AppendFault.RefsSpent) ⊎ (fault ≡ AppendFault.Memory)) }
 {
-    // for the proof: no series of the head is there twice
+    // for the proof: no two series of the head are equal
     head.series();
     let mut standings = standings(alloc, head, &rows.sets)?;
     let mut next = head.next_reference();

@@ -1,5 +1,5 @@
-//! The live head: a head that goes on after replay. Rows come in, are judged, logged, and only then taken, so that the head is at
-//! each moment where its log leads.
+//! The live head: a head that takes new rows after replay. A row is judged, logged and only then applied, so that the head always
+//! has the content of its log.
 #![tactic(auto)]
 
 mod agreeing;

@@ -1,6 +1,6 @@
 //! Samples with the slots of their series.
 
-/// A sample of a head, and the slot of its series.
+/// A sample of a head with the slot of its series. Samples are ordered by slot, then time, then value.
 #[derive(Clone, Copy, PartialEq, Eq, PartialOrd, Ord)]
 pub(crate) struct PlacedSample {
     pub(crate) slot: u32,

@@ -1,4 +1,4 @@
-//! Rows whose label sets were looked over.
+//! Rows whose label sets were checked.
 
 ghost use Rattle.std.specs.Prelude.{◌≡◌, All, IfErr, IfOk, IsOk, OnOk, Some, length, map};
 ghost use Rattle.wal_record.specs.Labels.{IsLabelSet, same_labels};
@@ -15,7 +15,7 @@ use std::marker::Model;
 use std::sync::Arc;
 use wal_record::{LabelFault, LabelSet};
 
-/// A row of a list whose label sets stand apart, each once: the number of its set there.
+/// A row whose labels are kept apart: the index of its label set, its time and its value.
 #[derive(Clone, Copy, Debug)]
 pub(crate) struct PreparedRow {
     pub(crate) set: usize,
@@ -23,11 +23,11 @@ pub(crate) struct PreparedRow {
     pub(crate) value: i64,
 }
 
-/// Rows whose labels are label sets, ready to be appended. Contracts see them as a list of `Row`. Each label set is kept once, so
-/// that an append looks each up once.
+/// Rows that are ready to be appended. Each distinct label set is kept once, so that an append looks it up once. Contracts see a list
+/// of `Row`.
 #[derive(Debug, Drop)]
 pub struct Prepared {
-    // lent to what appenders are told of the rows
+    // shared with the answered rows that appenders keep
     pub(crate) sets: Vec<Arc<LabelSet, Global>>,
     pub(crate) rows: Vec<PreparedRow>,
 }
@@ -44,7 +44,7 @@ impl Model for Prepared {
     ghost invariant = { λ p. ArePlaced (map (λ s. s.value) p.sets.items) p.rows.items };
 }
 
-// The label set of these pairs.
+// Builds the label set of these names and values.
 fn label_set(alloc: Global, pairs: &[(Vec<u8>, Vec<u8>)]) -> Result<LabelSet, LabelFault>
     ensures labels { IfOk result (λ labels. labels ≡ labels_of pairs.now) }
     ensures ordered { IsOk result → IsLabelSet (labels_of pairs.now) }
@@ -57,7 +57,7 @@ fn label_set(alloc: Global, pairs: &[(Vec<u8>, Vec<u8>)]) -> Result<LabelSet, La
     Ok(labels)
 }
 
-// The label set of the row in this place.
+// Builds the label set of the row with this index.
 fn row_labels(alloc: Global, place: usize, raw: &RawRow) -> Result<LabelSet, PrepareFault>
     ensures labels { IfOk result (λ labels. labels ≡ (row_of raw.now).labels) }
     ensures ordered { IsOk result → IsLabelSet (row_of raw.now).labels }
@@ -70,7 +70,7 @@ fn row_labels(alloc: Global, place: usize, raw: &RawRow) -> Result<LabelSet, Pre
     }
 }
 
-// The number of a label set among these, where a new one goes behind the others.
+// Returns the index of a label set in `sets`, to which it is appended if it is new.
 fn number_of(
     numbers: &mut SeriesTable,
     sets: &mut Vec<LabelSet>,
@@ -91,7 +91,7 @@ fn number_of(
     Ok(bound.slot.index())
 }
 
-// These label sets, each to be shared.
+// Puts each label set into an `Arc`.
 fn shared(alloc: Global, sets: Vec<LabelSet>) -> Result<Vec<Arc<LabelSet, Global>>, AllocError>
     ensures { IfOk result (λ shared. map (λ s. s.value) shared.items ≡ sets.items) }
 {
@@ -103,8 +103,8 @@ fn shared(alloc: Global, sets: Vec<LabelSet>) -> Result<Vec<Arc<LabelSet, Global
 }
 
 impl Prepared {
-    /// Prepares rows: the pairs of each are to be a label set, names ascending and none empty. It takes no lock and asks nothing of
-    /// a head.
+    /// Checks the labels of rows. The names of a row must be in strictly ascending order, and none may be empty; otherwise the first
+    /// such row is returned as an error. This takes no lock and needs no head.
     pub fn new(alloc: Global, rows: &[RawRow]) -> Result<Prepared, PrepareFault>
         ensures rows { IfOk result (λ prepared. prepared ≡ map row_of rows.now) }
         ensures ordered { IsOk result → All (λ row. IsLabelSet (row_of row).labels) rows.now }
@@ -128,7 +128,7 @@ impl Prepared {
         })
     }
 
-    /// How many rows there are.
+    /// Returns the number of rows.
     pub fn len(&self) -> usize
         ensures { result ≡ length self.now }
     {

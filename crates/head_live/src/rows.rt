@@ -1,6 +1,6 @@
-//! Rows as they are handed in.
+//! Rows before they are checked.
 
-/// A row as it is handed in: the names and the values of its labels, a time in milliseconds and a value.
+/// An unchecked row: the name and the value of each label, a time in milliseconds, and the eight bytes of the value as a number.
 #[derive(Debug, Drop)]
 pub struct RawRow {
     pub pairs: Vec<(Vec<u8>, Vec<u8>)>,

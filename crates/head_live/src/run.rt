@@ -1,10 +1,10 @@
-//! Which run of a shared head a token is of.
+//! The type parameter of a shared head, its appenders and their tokens.
 
 use std::marker::Brand;
 use std::sync::ledger::Ledger;
 
-/// A run of a shared head: its ledger, and the live head's moment at its start. It has no calls. A generic function is proved for every
-/// run; whoever calls it fills it with `Brand`.
+/// A run of a shared head: the ledger of its tokens, and the moment of the live head when it began. The trait has no methods. Generic
+/// functions are proved for every run, and callers use `Brand`.
 pub trait HeadRun: Ledger {
     ghost use Rattle.head_live.specs.Moments.{Moment};
 

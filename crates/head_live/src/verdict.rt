@@ -1,10 +1,10 @@
-//! What is said of a row.
+//! The verdict on a row.
 
-/// What is said of a row.
+/// The verdict on a row.
 #[derive(Clone, Copy, Debug, PartialEq, Eq)]
 pub enum Verdict {
-    /// The row is logged, and is the last sample of its series.
+    /// The row was logged and is now the last sample of its series.
     Accepted,
-    /// A sample of its series has an equal or later time. Nothing of the row is logged or counted.
+    /// Its series has a sample with an equal or later time. The row is neither logged nor counted.
     Stale,
 }

@@ -3,14 +3,12 @@ use Rattle.std.proofs.lemmas.Int.{to_z-of_z}
 use Rattle.std.specs.Prelude.{ℤ, pos}
 use Rattle.head_column.specs.declared.items.Sample.{Sample}
 use Rattle.head_live.specs.declared.placed.PlacedSample.{PlacedSample}
-use Rattle.head_live.specs.Closing.{row_of_sample}
-use Rattle.head_live.specs.Placing.{labels_at, row_at}
+use Rattle.head_live.specs.Placing.{placed}
 use Rattle.head_live.proofs.CloseLemmas.{mapped_at, pushed_more}
 use Rattle.head_live.proofs.agreeing.add_samples.Goals as goal
 
 pub loop-sample-preserved : goal.loop-sample-preserved
 loop-sample-preserved c =
-    let content = c.args.head.now.content in
     let i = c.loop-sample.sample-index in
     let all = c.loop-sample.all.items in
     let xs : List Sample = take (length c.deref.result.now - c.min.result) (drop c.min.result c.deref.result.now) in
@@ -19,5 +17,4 @@ loop-sample-preserved c =
     let value : to_z w64 (of_z w64 x.value) ≡ x.value = search (rules, to_z-of_z) in
     let with_one : ℤ → ℤ → List PlacedSample = λ t v. all ++ record { slot = c.args.slot; time = t; value = v } ∷ [] in
     let pushed : c.push.new.self.items ≡ with_one x.time x.value = c.in_ok-push.ensures.items ∙ (ap (λ t. with_one t (to_z w64 (of_z w64 x.value))) time ∙ ap (with_one x.time) value) in
-    pushed_more (row_at content) c.push.new.self.items all (record { slot = c.args.slot; time = x.time; value = x.value }) _ _ _ pushed c.loop-sample.invariant
-    (mapped_at (row_of_sample (labels_at content c.args.slot)) xs i (record { time = pos 0; value = pos 0 }) c.loop-sample-test.true)
+    pushed_more c.push.new.self.items all (placed c.args.slot x) _ _ _ pushed c.loop-sample.invariant (mapped_at (placed c.args.slot) xs i (record { time = pos 0; value = pos 0 }) c.loop-sample-test.true)

@@ -7,7 +7,9 @@ use Rattle.head_column.specs.Times.{reaches}
 use Rattle.head_core.specs.Heads.{history_at}
 use Rattle.head_series.specs.Texts.{place}
 use Rattle.head_live.specs.declared.placed.PlacedSample.{PlacedSample}
+use Rattle.head_live.specs.Told.{answer_of}
 use Rattle.head_live.proofs.CloseLemmas.{found_reached, placed_row}
+use Rattle.head_live.proofs.DifferLemmas.{not_reached}
 use Rattle.head_live.proofs.agreeing.place_row.Goals as goal
 
 pub returns-in_ok-push-in-Accepted-clause-rows : goal.returns-in_ok-push-in-Accepted-clause-rows
@@ -25,14 +27,18 @@ returns-in_ok-push-in-Accepted-clause-rows c = λ _.
     c.in_ok-push-in-Accepted.ensures.items ∙ (ap (λ t. sample t (to_z w64 (of_z w64 row.value))) time ∙ ap (sample row.time) value) in
     placed_row content row slot old c.push.new.self.items found c.in-Accepted.is pushed
 
-pub returns-in-Stale-clause-stale : goal.returns-in-Stale-clause-stale
-returns-in-Stale-clause-stale c = λ h _.
+pub returns-in-Stale : goal.returns-in-Stale
+returns-in-Stale c =
     let content = c.args.head.now.content in
     let row = c.args.row.now in
     let slot = c.in-Some.slot in
     let found : place (same_labels row.labels.value) content.table.series ≡ Some slot =
     ap (λ l. place (same_labels l) content.table.series) (sym c.deref.ensures) ∙ (sym c.find.ensures.slot ∙ c.in-Some.is) in
     let time : to_z w64 (of_z w64 row.time) ≡ row.time = search (rules, to_z-of_z) in
-    let reached : reaches (latest (history_at content slot).samples) row.time ≡ true =
-    ap (reaches (latest (history_at content slot).samples)) (sym time) ∙ (ap (λ o. reaches o (to_z w64 (of_z w64 row.time))) (sym c.last_time.ensures) ∙ (sym c.is_reached.ensures ∙ h)) in
-    found_reached content row.labels.value slot row.time found reached
+    let reached : reaches (latest (history_at content slot).samples) row.time ≡ c.is_reached.result =
+    ap (reaches (latest (history_at content slot).samples)) (sym time) ∙ (ap (λ o. reaches o (to_z w64 (of_z w64 row.time))) (sym c.last_time.ensures) ∙ sym c.is_reached.ensures) in record {
+      rows = search rules;
+      stale = λ h _. found_reached content row.labels.value slot row.time true found (reached ∙ h);
+      impossible = λ no. not_reached content (answer_of row) slot found c.in-Stale.is (reached ∙ no);
+      slots = search rules;
+    }

@@ -1,10 +1,11 @@
 use Rattle.std.proofs.Common.{◌≡◌, ◌+◌, ◌∙◌, ◌∷◌, ◌++◌, [], All, List, ap, append_assoc, map, subst, sym, take}
 use Rattle.std.proofs.lemmas.List.Elements.{All-push}
 use Rattle.head_live.specs.Closing.{IsStaleIn}
-use Rattle.head_live.specs.Placing.{row_at}
+use Rattle.head_live.specs.Placing.{IsPossible, row_at}
 use Rattle.head_live.specs.Rows.{Row}
 use Rattle.head_live.specs.Told.{Answer, accepted_rows, answer_of}
 use Rattle.head_live.proofs.CloseLemmas.{accepted_rows-append, mapped_more}
+use Rattle.head_live.proofs.DifferLemmas.{all_at}
 use Rattle.head_live.proofs.agreeing.place_rows.Goals as goal
 
 pub loop-row-preserved : goal.loop-row-preserved
@@ -21,4 +22,10 @@ loop-row-preserved c =
           ∙ (append_assoc front (accepted_rows so_far) (accepted_rows (answer_of x ∷ []))
           ∙ ap (λ r. front ++ r) (sym (accepted_rows-append so_far (answer_of x ∷ [])) ∙ ap accepted_rows (sym more))));
       stale = subst (All (IsStaleIn content)) (sym more) (All-push (IsStaleIn content) so_far (answer_of x) c.loop-row.invariant.stale (c.in_ok-place_row.ensures.stale c.if-not-branch.false));
+      slots = λ h. c.in_ok-place_row.ensures.slots (c.loop-row.invariant.slots h);
     }
+
+pub returns-then-not-branch-clause-impossible : goal.returns-then-not-branch-clause-impossible
+returns-then-not-branch-clause-impossible c = λ _ all.
+    c.in_ok-place_row.ensures.impossible c.if-not-branch.true
+    (all_at (IsPossible c.args.head.now.content) answer_of c.args.told.now c.loop-row.row-index c.row-item.result c.loop-row-test.true c.row-item.is all)
