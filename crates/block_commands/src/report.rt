@@ -2,7 +2,7 @@
 
 use block_read::BlockRows;
 use head_column::Hour;
-use prom_figures::{Counts, counts_of, ends};
+use prom_figures::{BlockCounts, counts_of, ends};
 use std::alloc::{AllocError, Global};
 
 /// Returns a line for each hour: its number, its first millisecond and the first one after it.
@@ -16,7 +16,7 @@ pub fn ranges_text(alloc: Global, hours: &[Hour]) -> Result<String, AllocError> 
 }
 
 /// Appends a line for each of a block's counts: samples, series and chunks.
-pub fn push_counts(text: &mut String, counts: &Counts) -> Result<(), AllocError> {
+pub fn push_counts(text: &mut String, counts: &BlockCounts) -> Result<(), AllocError> {
     writeln!(text, "samples {}", counts.samples)?;
     writeln!(text, "series {}", counts.series)?;
     writeln!(text, "chunks {}", counts.chunks)?;

@@ -8,7 +8,7 @@ use head_column::CHUNK_SAMPLES;
 
 /// How much a block holds. A count past 64 bits, which no block in memory has, stays at 2^64 - 1.
 #[derive(Clone, Copy, Debug, PartialEq, Eq)]
-pub struct Counts {
+pub struct BlockCounts {
     pub samples: u64,
     pub series: u64,
     pub chunks: u64,
@@ -17,13 +17,13 @@ pub struct Counts {
 }
 
 /// Counts the series, chunks, samples and hidden runs of a block's rows.
-pub fn counts_of(rows: &[BlockRow]) -> Counts
+pub fn counts_of(rows: &[BlockRow]) -> BlockCounts
     ensures samples { result.samples ≡ sample_count rows.now }
     ensures series { result.series ≡ length rows.now }
     ensures chunks { result.chunks ≡ chunk_count rows.now }
     ensures hidden { result.hidden ≡ hidden_count rows.now }
 {
-    let mut counts = Counts {
+    let mut counts = BlockCounts {
         samples: 0,
         series: rows.len() as u64,
         chunks: 0,

@@ -8,7 +8,7 @@ mod hours;
 mod line;
 mod pacer;
 
-pub use counts::{Counts, counts_of};
+pub use counts::{BlockCounts, counts_of};
 pub use extent::Extent;
 pub use hours::ends;
 pub use line::Line;
