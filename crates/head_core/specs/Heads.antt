@@ -1,4 +1,4 @@
--- What a head shows, and what its fields owe each other.
+-- What contracts see of a head, and its invariant.
 use Rattle.std.specs.Prelude.{◌≡◌, ◌≤◌, ◌<◌, ℕ, Bool, List, All, length, slice_get, unwrap_or}
 use Rattle.head_column.specs.Histories.{History, no_history}
 use Rattle.head_series.specs.Table.{Table}
@@ -6,12 +6,12 @@ use Rattle.head_postings.specs.Slots.{AreBelow}
 use Rattle.head_postings.specs.Postings.{Lists}
 use Rattle.head_core.specs.Content.{Content, series_limit}
 
--- how many columns more go in with no memory, and how many items more each column takes
+-- the number of columns that can be added without allocating, and the number of items that each column takes without allocating
 pub record ColumnRoom : Type 0 where
   pub columns : ℕ
   pub spares : List ℕ
 
--- The content of a head, and whether it has failed. And, of which no call tells, the room of its columns.
+-- The content of a head, and whether it has failed; and the room of its columns, which no call shows.
 pub record HeadValue : Type 0 where
   pub content : Content
   pub failed : Bool
@@ -25,7 +25,7 @@ history_at c slot = unwrap_or (slice_get c.histories slot) no_history
 abbrev pub AreSlots : Content → List ℕ → Type 0
 AreSlots c slots = All (λ s. s < length c.table.series) slots
 
--- the table has the limits of a head, and is within them
+-- the table has the limits of a head and is within them
 pub record IsBounded (table : Table) : Type 0 where
   pub limit : table.most ≡ series_limit
   pub few : length table.series ≤ series_limit

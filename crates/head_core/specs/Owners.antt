@@ -1,4 +1,4 @@
--- Which label set a reference stands for, behind some entries of a log.
+-- The owner of a reference: the label set that it names after some entries of a log.
 use Rattle.std.specs.Prelude.{ℕ, List, [], ◌∷◌, Option}
 use Rattle.std.specs.List.{flat_map}
 use Rattle.wal_record.specs.Entries.{Entry, series, sample, stone}

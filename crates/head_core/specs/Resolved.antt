@@ -1,4 +1,4 @@
--- Whose each item of a log is, for a head whose columns are built elsewhere, and what that head's parts make.
+-- The series of each item of a log, for a head whose columns are built elsewhere, and the content of the head that such parts make.
 use Rattle.std.specs.Prelude.{◌≡◌, ◌≤◌, ℕ, ℤ, Bool, List, [], ◌∷◌, Option, None, Some, length, map}
 use Rattle.std.specs.List.{flat_map}
 use Rattle.std.specs.Option.{option_and_then}
@@ -24,7 +24,7 @@ pub record ResolverValue : Type 0 where
   pub counts : Counts
   pub failed : Bool
 
--- The slot of a reference's owner behind these entries, if it has an owner: the owner's place among the series. More entries move no series.
+-- The slot of a reference's owner after these entries, if it has one: the owner's place among the series. Later entries move no series.
 abbrev pub slot_behind : List Entry → ℕ → Option ℕ
 slot_behind es r = option_and_then (λ l. place (same_labels l) (series_of (bindings es))) (owner es r)
 
@@ -42,16 +42,16 @@ items_at before (stone d) = with_slot (slot_behind before d.reference) (stone_it
 abbrev pub resolved : List Entry → List (ℕ × Item)
 resolved es = along items_at es
 
--- what these records count, but for the outcomes, which only the columns can tell
+-- the counts of these records, except for the outcomes, which only columns can tell
 abbrev pub known_counts_of : List WalRecord → Counts
 known_counts_of rs = record (counts_of rs) { accepted = 0; stale = 0; hiding = 0; empty_stones = 0 }
 
--- This is what the records say, read one after another, of series, references and counts.
+-- These are the series, the references and the counts of the records, read one after another.
 pub record IsResolved (rs : List WalRecord) (v : ResolverValue) : Type 0 where
   pub shown : IsTableOf (bindings (entries_of rs)) v.table
   pub counted : v.counts ≡ known_counts_of rs
 
--- What these records say of that is within the limits of a head: the series, the distinct label texts, and each count.
+-- These are within the limits of a head: the series, the distinct label texts, and each count.
 pub record IsResolvable (rs : List WalRecord) : Type 0 where
   pub series : length (series_of (bindings (entries_of rs))) ≤ series_limit
   pub texts : length (distinct same_text (flat_map texts_of (series_of (bindings (entries_of rs))))) ≤ series_limit
@@ -72,7 +72,7 @@ with_outcomes c d = record c { accepted = d.accepted; stale = d.stale; hiding = 
 abbrev pub times_in : List History → List ℤ
 times_in histories = flat_map (λ h. map (λ s. s.time) h.samples) histories
 
--- What a head shows that is made of a resolver, the histories of its series, the counts of their outcomes, and postings.
+-- The content of a head that is made of a resolver, the histories of its series, the counts of their outcomes, and postings.
 abbrev pub assembled : ResolverValue → List History → Counts → Lists → Content
 assembled v histories counts postings = record {
   table = v.table;

@@ -1,4 +1,4 @@
--- Words of proofs and of private functions, cited by no public contract: what one entry does to what a resolver shows.
+-- What one entry does to a resolver: words of proofs and of private functions, which no public contract cites.
 use Rattle.std.specs.Prelude.{◌≡◌, ℕ, List, [], ◌++◌, ◌∷◌, ◌⊎◌, Option, None, Some}
 use Rattle.wal_record.specs.Entries.{Entry, series, sample, stone}
 use Rattle.head_column.specs.declared.items.Item.{Item}
@@ -9,7 +9,7 @@ use Rattle.head_core.specs.Content.{count_limit, series_limit}
 use Rattle.head_core.specs.Steps.{with_fate, count_of_fate, IsOverTable, IsTableAfter}
 use Rattle.head_core.specs.Resolved.{ResolverValue, with_slot}
 
--- the counts with an item that comes to this slot: one without a slot is unknown, and what becomes of any other is told elsewhere
+-- the counts with an item of this slot: an item without a slot is unknown, and the outcome of any other is counted by its column
 abbrev pub with_item : Option ℕ → Item → Counts → Counts
 with_item None i c = with_fate (unknown_fate i) c
 with_item (Some s) i c = c

@@ -1,4 +1,4 @@
--- What a head has room for.
+-- The room of a head for records.
 use Rattle.std.specs.Prelude.{◌≡◌, ℕ, ◌+◌, ◌≤◌, ◌<◌, ◌==◌, false, List, [], ◌∷◌, ◌++◌, Option, None, Some, All, length, map, count_by, nat_eq, slice_get, unwrap_or, if◌then◌else◌}
 use Rattle.wal_record.specs.declared.record.WalRecord.{WalRecord}
 use Rattle.wal_record.specs.Labels.{same_labels}
@@ -20,7 +20,7 @@ use Rattle.head_core.specs.Steps.{count_of_fate, found, told, told_item}
 abbrev pub sets_of : List Entry → List Labels
 sets_of es = map (λ b. b.labels) (bindings es)
 
--- the same slots, but that the reference q has this one
+-- the slots of references, with that of the reference q replaced by this one
 abbrev pub pointed : (ℕ → Option ℕ) → ℕ → Option ℕ → ℕ → Option ℕ
 pointed at q slot = λ r. if q == r then slot else at r
 
@@ -28,27 +28,29 @@ abbrev pub to_slot : Option ℕ → List ℕ → List ℕ
 to_slot None slots = slots
 to_slot (Some s) slots = s ∷ slots
 
--- The slots that the items among the entries come to, in order: each that of its reference at its place. These are the series before, and the slots of the references.
+-- The slots of the items among the entries, in order: that of an item is the slot of its reference at its place, if it has one. Before the
+-- entries the series are `ss`, and the slots of references `at`.
 abbrev pub targets : List Labels → (ℕ → Option ℕ) → List Entry → List ℕ
 targets ss at [] = []
 targets ss at (series e ∷ es) = targets (with_series ss e.labels) (pointed at e.reference (place (same_labels e.labels) (with_series ss e.labels))) es
 targets ss at (sample s ∷ es) = to_slot (at s.reference) (targets ss at es)
 targets ss at (stone d ∷ es) = to_slot (at d.reference) (targets ss at es)
 
--- so many items the column of a slot takes with no memory
+-- the number of items that the column of a slot takes without allocating
 abbrev pub spare_at : List ℕ → ℕ → ℕ
 spare_at spares s = unwrap_or (slice_get spares s) 0
 
--- each column takes as many items as come to its slot
+-- each column takes the items of its slot without allocating
 abbrev pub HaveSpare : List ℕ → List ℕ → Type 0
 HaveSpare spares slots = (s : ℕ) → count_by (nat_eq s) slots ≤ spare_at spares s
 
--- What was made for a list of records: for each label set that they bind, in order, what binding it needs; and columns for the series that will be new.
+-- What was made for a list of records: for each label set that they bind, in order, the memory of the binding; and columns for the series
+-- that will be new.
 pub record Made : Type 0 where
   pub ready : List Labels
   pub columns : List ColumnValue
 
--- the columns of a head, and behind them those that were made: how many items each takes
+-- the number of items that each column takes without allocating: first the columns of a head, then those that were made
 abbrev pub spares_with : ColumnRoom → Made → List ℕ
 spares_with r m = r.spares ++ map (λ c. c.spare) m.columns
 
@@ -60,7 +62,7 @@ HaveCounts counts es = (f : Fate) → count_of_fate f counts + length es ≤ cou
 abbrev pub HaveClasses : Counts → List WalRecord → Type 0
 HaveClasses counts rs = (r : WalRecord) → count_of_class r counts + length rs ≤ count_limit
 
--- These entries can be taken in turn, with what was made, and no memory is taken.
+-- These entries can be taken in turn, with what was made for them, without allocating.
 pub record HasRoom (h : HeadValue) (m : Made) (es : List Entry) : Type 0 where
   pub ready : m.ready ≡ sets_of es
   pub table : table_room.HasRoom h.content.table (bindings es)
@@ -71,7 +73,7 @@ pub record HasRoom (h : HeadValue) (m : Made) (es : List Entry) : Type 0 where
   pub spares : HaveSpare (spares_with h.room m) (targets h.content.table.series (slot_at h.content.table) es)
   pub counts : HaveCounts h.content.counts es
 
--- The records can be applied in turn, with what was made for them, and no memory is taken.
+-- The records can be applied in turn, with what was made for them, without allocating.
 pub record IsReserved (h : HeadValue) (m : Made) (rs : List WalRecord) : Type 0 where
   pub sound : h.failed ≡ false
   pub room : HasRoom h m (entries_of rs)
@@ -83,18 +85,19 @@ pub record Fits (c : Content) (rs : List WalRecord) : Type 0 where
   pub counts : HaveCounts c.counts (entries_of rs)
   pub classes : HaveClasses c.counts rs
 
--- The item can be taken with no memory: the column of its reference has room, and so has the count. A word of proofs, which no public contract cites.
+-- The item can be taken without allocating: the column of its reference has room for it, and so has its count. A word of proofs, which no
+-- public contract cites.
 pub record CanPut (h : HeadValue) (m : Made) (r : ℕ) (i : Item) : Type 0 where
   pub spare : (s : ℕ) → slot_at h.content.table r ≡ Some s → 0 < spare_at (spares_with h.room m) s
   pub count : count_of_fate (told_item (found h.content.table h.content.histories r) i) h.content.counts < count_limit
 
--- How much room an item takes at most: h is before it, k after it. A word of proofs, which no public contract cites.
+-- The most room that an item takes: h is the head before it, k the head after it. A word of proofs, which no public contract cites.
 pub record PutUses (h k : HeadValue) (r : ℕ) : Type 0 where
   pub columns : k.room.columns ≡ h.room.columns
   pub length : length k.room.spares ≡ length h.room.spares
   pub spares : (s : ℕ) → spare_at h.room.spares s ≤ spare_at k.room.spares s + count_by (nat_eq s) (to_slot (slot_at h.content.table r) [])
 
--- The entries bind nothing, and no item among them comes to a series.
+-- The entries bind nothing, and the reference of no item among them has a slot.
 abbrev pub IsIdle : Table → List Entry → Type 0
 IsIdle t es = (bindings es ≡ []) × (targets t.series (slot_at t) es ≡ [])
 

@@ -1,4 +1,5 @@
--- Words of proofs and of private functions, cited by no public contract: what one entry does to what a head shows.
+-- What one entry does to the content of a head. Mostly words of proofs and of private functions; docs/DEFINITIONS.md lists those that
+-- public contracts cite.
 use Rattle.std.specs.Prelude.{◌≡◌, ℕ, ◌+◌, ℤ, true, false, List, [], ◌∷◌, ◌++◌, ◌⊎◌, Option, None, Some, length, slice_get, slice_set, if◌then◌else◌}
 use Rattle.std.specs.Option.{option_and_then}
 use Rattle.wal_record.specs.declared.record.WalRecord.{WalRecord}
@@ -32,13 +33,13 @@ told_item (Some h) i = fate_of (history_outcome h i)
 abbrev pub found : Table → List History → ℕ → Option History
 found t hs r = option_and_then (slice_get hs) (slot_at t r)
 
--- what becomes of an entry, by what is shown
+-- what becomes of an entry, by the table and the histories before it
 abbrev pub told : Table → List History → Entry → Fate
 told t hs (series e) = bound
 told t hs (sample s) = told_item (found t hs s.reference) (sample_item s)
 told t hs (stone d) = told_item (found t hs d.reference) (stone_item d)
 
--- the histories with the item come to the one in the slot, if there is one
+-- the histories once the item was added to the one in the slot, if there is one
 abbrev pub put_item : Option ℕ → Option History → Item → List History → List History
 put_item None h i hs = hs
 put_item (Some slot) None i hs = hs
@@ -55,7 +56,7 @@ abbrev pub later_option : Option ℤ → Option ℤ → Option ℤ
 later_option m None = m
 later_option m (Some t) = later m t
 
--- the greatest time once this became of an item
+-- the greatest time after an item with this fate
 abbrev pub max_item : Fate → Item → Option ℤ → Option ℤ
 max_item accepted (item.Sample s) m = later m s.time
 max_item fate i m = m
@@ -66,7 +67,7 @@ max_after t hs m (series e) = m
 max_after t hs m (sample s) = max_item (told t hs (sample s)) (sample_item s) m
 max_after t hs m (stone d) = max_item (told t hs (stone d)) (stone_item d) m
 
--- one entry of this fate more
+-- the counts with one more entry of this fate
 abbrev pub with_fate : Fate → Counts → Counts
 with_fate bound c = record c { series_entries = c.series_entries + 1 }
 with_fate accepted c = record c { accepted = c.accepted + 1 }
@@ -76,14 +77,14 @@ with_fate hides c = record c { hiding = c.hiding + 1 }
 with_fate empty_stone c = record c { empty_stones = c.empty_stones + 1 }
 with_fate unknown_stone c = record c { unknown_stones = c.unknown_stones + 1 }
 
--- one record of this class more
+-- the counts with one more record of this type
 abbrev pub with_record : WalRecord → Counts → Counts
 with_record (Series es) c = record c { series_records = c.series_records + 1 }
 with_record (Samples ss) c = record c { sample_records = c.sample_records + 1 }
 with_record (Stones ds) c = record c { stone_records = c.stone_records + 1 }
 with_record (Other kind) c = record c { skipped_records = c.skipped_records + 1 }
 
--- how many entries of this fate there were: the count that `with_fate` raises
+-- the number of entries of this fate: the count that `with_fate` raises
 abbrev pub count_of_fate : Fate → Counts → ℕ
 count_of_fate bound c = c.series_entries
 count_of_fate accepted c = c.accepted
@@ -113,7 +114,7 @@ IsTableAfter t (series e) u = (bs : List Binding) → IsTableOf bs t → IsTable
 IsTableAfter t (sample s) u = u ≡ t
 IsTableAfter t (stone d) u = u ≡ t
 
--- the postings after a series entry: a new series goes behind those that they were of
+-- the postings after a series entry: they have the new series, if there is one, after those before
 pub record ArePosted (t : Table) (p : Lists) (labels : Labels) (q : Lists) : Type 0 where
   pub known : has_series t.series labels ≡ true → q ≡ p
   pub new : has_series t.series labels ≡ false → (sets : List (ℕ × Labels)) → IsPostingsOf sets p → IsPostingsOf (sets ++ (length t.series, labels) ∷ []) q

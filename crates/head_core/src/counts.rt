@@ -1,4 +1,4 @@
-//! How many records and entries there were of each kind.
+//! The counts of records and of entries, by kind.
 
 ghost use Rattle.std.specs.Prelude.{◌≡◌, ◌↔◌, ◌+◌, ◌<◌, ◌≤◌, [], All, Err, None, IfSome, IsOk, IsTrue, OnErr, OnOk, length};
 ghost use Rattle.wal_record.specs.Entries.{entries_in, entries_of};
@@ -11,7 +11,8 @@ use crate::fault::HeadFault;
 use head_column::{Item, Outcome};
 use wal_record::WalRecord;
 
-/// The counts of a log, in the order in which they are printed. A deletion is a *stone*.
+/// The numbers of a log's records by type, and of its entries by what became of them, in the order in which they are printed. A deletion
+/// is a *stone*.
 #[derive(Clone, Copy, Debug, PartialEq, Eq)]
 pub struct Counts {
     pub series_records: u64,
@@ -27,7 +28,7 @@ pub struct Counts {
     pub unknown_stones: u64,
 }
 
-// One more, which is refused where there are 2^64 - 1.
+// Adds 1 to a count, or returns `Full` if it is 2^64 - 1.
 pub(crate) fn one_more(count: &mut u64) -> Result<(), HeadFault>
     ensures more { OnOk result (count.new ≡ count.old + 1) }
     ensures full { OnErr result ((count.old ≡ count_limit) × (count.new ≡ count.old)) }
@@ -45,7 +46,7 @@ pub(crate) fn one_more(count: &mut u64) -> Result<(), HeadFault>
     }
 }
 
-// How many entries the record has.
+// Returns the number of entries of a record.
 fn entry_count(log_record: &WalRecord) -> usize
     ensures { result ≡ length (entries_in log_record.now) }
 {
@@ -57,7 +58,7 @@ fn entry_count(log_record: &WalRecord) -> usize
     }
 }
 
-// How many entries the records have, if that has 64 bits.
+// Returns the number of entries of all records, or `None` if it does not fit in 64 bits.
 fn count_entries(records: &[WalRecord]) -> Option<u64>
     ensures some { IfSome result (λ many. many ≡ length (entries_of records.now)) }
     ensures none { result ≡ None → count_limit < length (entries_of records.now) }
@@ -69,7 +70,7 @@ fn count_entries(records: &[WalRecord]) -> Option<u64>
     Some(many)
 }
 
-// Whether each of these can be raised by so much.
+// Returns whether each count, plus `more`, fits in 64 bits.
 fn all_fit(counts: &[u64], more: u64) -> bool
     ensures fit { IsTrue result ↔ All (λ count. count + more ≤ count_limit) counts.now }
     ensures nothing { more ≡ 0 → IsTrue result }
@@ -83,7 +84,7 @@ fn all_fit(counts: &[u64], more: u64) -> bool
 }
 
 impl Counts {
-    /// The counts of no records.
+    /// Returns the counts of no records: all are 0.
     pub fn new() -> Counts
         ensures { result ≡ no_counts }
     {
@@ -102,7 +103,7 @@ impl Counts {
         }
     }
 
-    // Whether each count has room for all entries of the records, and each count of records for all records.
+    // Returns `Full` unless each count of entries has room for all entries of the records, and each count of records for all records.
     pub(crate) fn check_room(&self, records: &[WalRecord]) -> Result<(), HeadFault>
         ensures counts { OnOk result (HaveCounts self.now (entries_of records.now)) }
         ensures classes { OnOk result (HaveClasses self.now records.now) }
@@ -139,7 +140,7 @@ impl Counts {
         Ok(())
     }
 
-    /// One more of what became of an item of a series. `Full` where there are 2^64 - 1; then nothing is changed.
+    /// Adds 1 to the count of an outcome. Returns `Full`, with the counts unchanged, if it is 2^64 - 1.
     pub fn add_outcome(&mut self, outcome: Outcome) -> Result<(), HeadFault>
         ensures more { OnOk result (self.new ≡ with_fate (fate_of outcome) self.old) }
         ensures full { result ≡ Err HeadFault.Full → count_of_fate (fate_of outcome) self.old ≡ count_limit }
@@ -155,7 +156,7 @@ impl Counts {
         }
     }
 
-    // One more item whose reference has no owner.
+    // Adds 1 to the count of items whose reference has no owner.
     pub(crate) fn add_unknown(&mut self, item: &Item) -> Result<(), HeadFault>
         ensures more { OnOk result (self.new ≡ with_fate (unknown_fate item.now) self.old) }
         ensures full { result ≡ Err HeadFault.Full → count_of_fate (unknown_fate item.now) self.old ≡ count_limit }

@@ -1,4 +1,4 @@
-//! A list of records that room is made for, as far as it was gone over.
+//! The state of `Head::reserve`: the records that room was made for so far.
 
 ghost use Rattle.std.specs.Prelude.{◌≡◌, ◌+◌, ◌<◌, ◌≤◌, ◌==◌, ◌++◌, ◌∷◌, [], ℕ, List, Some, length, map, nat_eq, if◌then◌else◌, IfOk, IfSome, OnOk};
 ghost use Rattle.std.specs.Map.{lookup};
@@ -20,8 +20,8 @@ use std::collections::VecDeque;
 use std::marker::Model;
 use wal_record::{LabelSet, SeriesEntry};
 
-/// What was made so far, and what the records so far say beyond the head: the series that they make new in a table of their own,
-/// the slot that each reference will have that they bind, and how many items come to each slot.
+/// What was made for the records so far, and what these say beyond the head: the series that will be new (a table), the slot that each
+/// reference which they bind will have, and the number of items of each slot.
 #[derive(Debug)]
 pub(crate) struct Draft {
     pub(crate) plan: Plan,
@@ -33,7 +33,7 @@ pub(crate) struct Draft {
     counts: IndexMap<u32, usize>,
 }
 
-// Written out: where another function lets go of a draft, its proof has one call, and not a copy of this.
+// Written out so that the proof of a function that drops a draft has one call, and not a copy of this.
 impl Drop for Draft {
     fn drop(self) {
         let Draft {
@@ -64,7 +64,7 @@ impl Model for Draft {
 }
 
 impl Draft {
-    // No records yet.
+    // Returns the draft of no records.
     pub(crate) fn new(table: &SeriesTable, postings: &Postings, alloc: Global) -> Draft
         ensures { (h : HeadValue) → h.content.table ≡ table.now → h.content.postings ≡ postings.now → length h.room.spares ≡ length table.now.series → IsDraft h result [] }
     {
@@ -79,7 +79,7 @@ impl Draft {
         }
     }
 
-    // Takes one binding more, for a head of this table.
+    // Adds a binding, for a head with this table.
     pub(crate) fn bind(
         &mut self,
         table: &SeriesTable,
@@ -95,7 +95,7 @@ impl Draft {
         Ok(())
     }
 
-    // The slot that a series has in the table, or will have.
+    // Returns the slot that a series has in the table, or will have.
     fn slot_for(&mut self, table: &SeriesTable, labels: &LabelSet) -> Result<Slot, AllocError>
         ensures same { self.new ≡ record self.old { made = record self.old.made { columns = self.new.made.columns }; series = self.new.series } }
         ensures series { OnOk result (table.now.series ++ self.new.series ≡ with_series (table.now.series ++ self.old.series) labels.now) }
@@ -109,7 +109,7 @@ impl Draft {
         }
     }
 
-    // The slot that a series will have that the table has not. A column is made for it, if it is new here too.
+    // Returns the slot that a series which the table has not will have. Makes a column for it, if it is new in the draft too.
     fn add(&mut self, table: &SeriesTable, labels: &LabelSet) -> Result<Slot, AllocError>
         ensures same { self.new ≡ record self.old { made = record self.old.made { columns = self.new.made.columns }; series = self.new.series } }
         ensures series { OnOk result (self.new.series ≡ with_series self.old.series labels.now) }
@@ -132,7 +132,7 @@ impl Draft {
         }
     }
 
-    // The slot that a reference will have behind the records so far, in a head of this table.
+    // Returns the slot that a reference will have after the records so far, in a head with this table.
     pub(crate) fn slot(&self, table: &SeriesTable, reference: u64) -> Option<Slot>
         ensures slot { result ≡ slot_after self.now (slot_at table.now) reference }
         ensures within { (n : ℕ) → length table.now.series ≤ n → ((r s : ℕ) → lookup (nat_eq r) self.now.slots ≡ Some s → s < n) → IfSome result (λ slot. slot < n) }
@@ -143,7 +143,7 @@ impl Draft {
         }
     }
 
-    // Counts one item more that comes to a slot, and says how many these are.
+    // Adds 1 to the number of items of a slot, and returns that number.
     pub(crate) fn count(&mut self, slot: Slot) -> Result<usize, AllocError>
         ensures same { self.new ≡ record self.old { counts = self.new.counts } }
         ensures many { IfOk result (λ many. many ≡ many_at self.old slot + 1) }
@@ -155,7 +155,7 @@ impl Draft {
         Ok(many)
     }
 
-    // Makes room for this many items in a column, if it is there.
+    // Makes room for this many items in a column, if it exists.
     pub(crate) fn widen(&mut self, index: usize, many: usize) -> Result<(), AllocError>
         ensures same { self.new ≡ record self.old { made = record self.old.made { columns = self.new.made.columns } } }
         ensures columns { HaveColumns self.old → HaveColumns self.new }
@@ -168,7 +168,7 @@ impl Draft {
         column.reserve(many)
     }
 
-    // What was made.
+    // Returns what was made.
     pub(crate) fn into_reserved(self) -> Reserved
         ensures { result ≡ self.made }
     {

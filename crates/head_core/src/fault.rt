@@ -1,18 +1,18 @@
-//! Why a head takes no record.
+//! Errors of a head.
 
 use head_series::BindFault;
 use std::alloc::AllocError;
 use std::error::Error;
 use std::fmt;
 
-/// Why a record was not taken.
+/// An error of a head or a resolver: why a record was not taken.
 #[derive(Clone, Copy, Debug, PartialEq, Eq)]
 pub enum HeadFault {
-    /// The head has failed before.
+    /// An earlier call failed.
     Failed,
-    /// One series or label text more than a head may have, or one more of a count of 2^64 - 1.
+    /// Too many series or label texts for a head, or a count past 2^64 - 1.
     Full,
-    /// Memory ran out.
+    /// Out of memory.
     Memory,
 }
 

@@ -1,4 +1,4 @@
-//! Laws of the definitions.
+//! Laws of the definitions. Each is a function that does nothing; its clauses are the law.
 
 ghost use Rattle.std.specs.Prelude.{◌≡◌, ◌++◌, ℕ, ℤ, List, None, Option, Some, filter, length, map, nat_eq, slice_get};
 ghost use Rattle.wal_record.specs.declared.record.WalRecord.{WalRecord as LogRecord};
@@ -23,18 +23,18 @@ ghost use Rattle.head_core.specs.Applied.{AreCountsOfOutcomes, new_slots, outcom
 use head_column::{columns_follow_items, tallies_follow_items};
 use head_series::slot_is_place;
 
-/// Records have just one content, as far as any view of a head goes: so the head that `replay_serial` gives, and every head to which
+/// Records have just one content, as far as any view of a head shows. So the head that `replay_serial` returns, and each head to which
 /// the same records were applied, is *the* head of those records.
 pub fn one_content()
     ensures { (rs : List LogRecord) (c d : Content) → IsContentOf rs c → IsContentOf rs d → AreAlike c d }
 {
-    // the laws that it rests on, for the proof
+    // the laws that the proof rests on
     slot_is_place();
     columns_follow_items();
 }
 
-/// Contents that are alike answer each call of a head alike: what the call answers of a head with the one content is what it answers of a head
-/// with the other. There is a clause for each call that looks at a head, and it speaks of what that call ensures.
+/// A head with one of two alike contents answers each call as a head with the other does. There is a clause for each view of a head, about
+/// the value that this view ensures.
 pub fn alike_answers()
     ensures counts { (c d : Content) → AreAlike c d → d.counts ≡ c.counts }
     ensures series { (c d : Content) → AreAlike c d → length d.table.series ≡ length c.table.series }
@@ -54,27 +54,27 @@ pub fn alike_answers()
     ensures max_time { (c d : Content) → AreAlike c d → d.max_time ≡ c.max_time }
 {}
 
-/// The slot that an item was resolved to is its owner's for good, since more entries move no series. So the items that were resolved
-/// to one slot are those that the label set there owns, in order.
+/// An item's slot stays its owner's slot, since later entries move no series. So the items that were resolved to a slot are those that
+/// the label set of the slot owns, in order.
 pub fn slots_stay()
     ensures series { (es more : List Entry) → (later : List Labels) × (series_of (bindings (es ++ more)) ≡ series_of (bindings es) ++ later) }
     ensures places { (es : List Entry) → map {B = Option ℕ × Item} (λ k. (Some k.0, k.1)) (resolved es) ≡ map {B = Option ℕ × Item} (λ k. (place (same_labels k.0) (series_of (bindings es)), k.1)) (known es) }
     ensures items { (es : List Entry) (s : ℕ) (l : Labels) → slice_get (series_of (bindings es)) s ≡ Some l → map (λ k. k.1) (filter (λ k. nat_eq s k.0) (resolved es)) ≡ items_of l es }
 {}
 
-/// Items that are applied in order to a slot for each series, which begins as new, make of each series what the log says, and what
-/// becomes of them is what the log's counts tell; and so it is where only the greatest time is kept of a series.
+/// Resolved items, applied in order to one new slot for each series, make the histories of the log's series, and their outcomes make its
+/// counts of outcomes. The counts are the same if only the greatest time of each series is kept (`tallied`).
 pub fn items_make_series()
     ensures histories { (es : List Entry) → AreHistoriesOf es (series_of (bindings es)) (map (λ p. p.1) (values_after history_after (new_slots no_history es) (resolved es))) }
     ensures outcomes { (rs : List LogRecord) → AreCountsOfOutcomes (outcomes_after history_after history_outcome (new_slots no_history (entries_of rs)) (resolved (entries_of rs))) (counts_of rs) }
     ensures tallied { (rs : List LogRecord) → AreCountsOfOutcomes (outcomes_after latest_after latest_outcome (new_slots {V = Option ℤ} None (entries_of rs)) (resolved (entries_of rs))) (counts_of rs) }
 {
-    // the laws that it rests on, for the proof
+    // the laws that the proof rests on
     columns_follow_items();
     tallies_follow_items();
 }
 
-/// What is within the limits of a head is so at each of its records; and what is within those of a head is within those of a resolver.
+/// If records are within the limits of a head, so are the first of them, and all are within the limits of a resolver.
 pub fn limits_hold_before()
     ensures front { (rs more : List LogRecord) → IsWithinLimits (rs ++ more) → IsWithinLimits rs }
     ensures resolvable { (rs : List LogRecord) → IsWithinLimits rs → IsResolvable rs }

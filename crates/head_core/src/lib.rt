@@ -1,19 +1,23 @@
-//! The live head: what the records of a log say, read one after another.
+//! The head: the content of a log's records, applied one after another.
 //!
-//! A head keeps the series of a log, the references that name them, of each series its accepted samples and its hidden runs, and
-//! the series of each label. `replay_serial` reads a whole log into one. What becomes of an entry depends on the entries before
-//! it alone. Where the columns are built elsewhere, a `Resolver` tells whose each item is, and `Head::assemble` puts the head together.
+//! A head has the series of a log, the references that name them, the accepted samples and the hidden runs of each series, and the
+//! series of each label. `replay_serial` reads a whole log into a head. What becomes of an entry depends only on the entries before
+//! it. Where the columns are built elsewhere, a `Resolver` finds the series of each item, and `Head::assemble` makes the head.
 #![tactic(auto)]
 
 mod counts;
 mod draft;
+mod entries;
 mod fault;
 mod head;
+mod items;
 mod laws;
 mod postings;
 mod replay;
 mod reserved;
+mod reserving;
 mod resolver;
+mod views;
 
 pub use counts::Counts;
 pub use fault::HeadFault;

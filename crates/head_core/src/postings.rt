@@ -1,4 +1,4 @@
-//! The series of each label.
+//! The postings of a table: the series of each label.
 
 ghost use Rattle.std.specs.Prelude.{IfOk};
 ghost use Rattle.head_postings.specs.Postings.{IsPostingsOf};
@@ -8,7 +8,7 @@ use head_postings::Postings;
 use head_series::{SeriesTable, Slot};
 use std::alloc::{AllocError, Global};
 
-/// The slots of each label of a table: what `Head::assemble` asks for, of the resolver's table.
+/// Returns the postings of a table's series, or an error if out of memory. `Head::assemble` takes those of the resolver's table.
 pub fn postings_of(alloc: Global, table: &SeriesTable) -> Result<Postings, AllocError>
     ensures postings { IfOk result (λ postings. IsPostingsOf (by_slot table.now.series) postings) }
 {

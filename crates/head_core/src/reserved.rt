@@ -1,19 +1,19 @@
-//! What applying a list of records needs, made beforehand.
+//! What `Head::reserve` makes for a list of records.
 
 use head_column::Column;
 use head_series::Ready;
 use std::collections::VecDeque;
 use std::marker::Model;
 
-/// What applying a list of records needs besides room in the head: what each binding needs, and the columns of the series that
-/// will be new. `Head::reserve` makes it, and `Head::apply_reserved` takes it. Contracts see it as `Made`.
+/// What applying a list of records needs besides room in the head: the memory of each binding, and the columns of the series that will
+/// be new. `Head::reserve` returns it, and `Head::apply_reserved` takes it. Contracts see it as `Made`.
 #[derive(Debug)]
 pub struct Reserved {
     pub(crate) ready: VecDeque<Ready>,
     pub(crate) columns: VecDeque<Column>,
 }
 
-// Written out: where another function lets go of these, its proof has one call, and not a copy of this.
+// Written out so that the proof of a function that drops these has one call, and not a copy of this.
 impl Drop for Reserved {
     fn drop(self) {
         let Reserved {

@@ -1,11 +1,10 @@
 -- The first place of an element.
-use Rattle.std.proofs.Common.{◌≡◌, ℕ, suc, ◌+◌, ◌<◌, Bool, true, false, cond, List, [], ◌∷◌, ◌++◌, Some, None, Option, ap, ◌∙◌, refl, arith, length, eq-eqb}
-use Rattle.std.specs.Prelude.{◌||◌, ◌&&◌, map, nat_lt, nat_eq, if◌then◌else◌, not, position}
-use Rattle.std.specs.List.{list_any, position_or_len}
+use Rattle.std.proofs.Common.{◌≡◌, ℕ, suc, ◌+◌, ◌<◌, Bool, true, false, List, [], ◌∷◌, ◌++◌, Some, None, Option, ap, ◌∙◌, refl, arith, length}
+use Rattle.std.specs.Prelude.{◌||◌, map, if◌then◌else◌}
+use Rattle.std.specs.List.{list_any}
 use Rattle.std.specs.Option.{option_map}
 use Rattle.std.proofs.lemmas.List.{map-append}
 use Rattle.indexmap.specs.IndexSet.{insert_key}
-use Rattle.std.proofs.lemmas.Slice.Eq.{bytes_eq-Decides}
 use Rattle.hw_bytes.specs.Lists.{IsSame}
 pub use Rattle.hw_bytes.proofs.Places.{position-map, list_any-map}
 use Rattle.wal_record.specs.Labels.{same_text}

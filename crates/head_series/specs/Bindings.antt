@@ -1,4 +1,4 @@
--- What a list of bindings says, and the tables that show it.
+-- What a list of bindings says, and the tables of such a list.
 use Rattle.std.specs.Prelude.{◌≡◌, ℕ, ◌<◌, ◌==◌, List, Option, None, Some, map, length, nat_lt, slice_get, if◌then◌else◌}
 use Rattle.std.specs.List.{flat_map}
 use Rattle.std.specs.Option.{option_and_then}
@@ -20,7 +20,7 @@ bound_by r b = if b.reference == r then Some b.labels else None
 abbrev pub owner : List Binding → ℕ → Option Labels
 owner bs r = last_found (bound_by r) bs
 
--- The series: the distinct label sets, by first place. A slot is a place in this list.
+-- The series: the distinct label sets, in the order of first sight. A slot is a place in this list.
 abbrev pub series_of : List Binding → List Labels
 series_of bs = distinct same_labels (map (λ b. b.labels) bs)
 
@@ -28,7 +28,7 @@ series_of bs = distinct same_labels (map (λ b. b.labels) bs)
 abbrev pub greatest_of : List Binding → Option ℕ
 greatest_of bs = greatest_by nat_lt (map (λ b. b.reference) bs)
 
--- The table shows what the bindings say: the series; for each reference the slot of its owner; the greatest reference; and each text of the series once.
+-- The table is that of the bindings: it has their series; for each reference the slot of its owner; the greatest reference; and each text of the series once.
 pub record IsTableOf (bs : List Binding) (t : Table) : Type 0 where
   pub series : t.series ≡ series_of bs
   pub owners : (r : ℕ) → option_and_then (slice_get t.series) (slot_at t r) ≡ owner bs r

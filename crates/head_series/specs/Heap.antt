@@ -3,7 +3,7 @@ use Rattle.std.specs.Prelude.{ℕ, List, []}
 use Rattle.head_series.specs.declared.heap.Link.{Link}
 use Rattle.head_series.specs.declared.heap.Link.TheVariants.{Empty, Full}
 
--- the references of a heap that there may be
+-- the references of a heap, if there is one
 abbrev pub items_of : Link → List ℕ
 items_of Empty = []
 items_of (Full h) = h.value

@@ -1,9 +1,12 @@
 -- How the slots of references are kept: words of proofs, which no public contract cites.
 use Rattle.std.specs.Prelude.{ℕ, zero, suc, List, [], ◌∷◌, ◌++◌, Option, None, Some, nat_eq, nat_le, nat_lt, length, filter, slice_index, take, IsTrue, if◌then◌else◌}
 use Rattle.std.specs.Map.{lookup}
-pub use Rattle.head_series.specs.Table.{low_end}
 
--- Of the references below that end a slot and one, or 0; the slots of the others; and how many of these can still be put in.
+-- references below this one have a place in a list, and the others are keys of a map
+abbrev pub low_end : ℕ
+low_end = 4194304
+
+-- For each reference below `low_end` its slot plus 1, or 0; the slots of the others; and how many of these can be added without allocating.
 pub record ReferenceSlotsValue : Type 0 where
   pub low : List ℕ
   pub high : List (ℕ × ℕ)

@@ -3,7 +3,7 @@ use Rattle.std.specs.Prelude.{◌≡◌, ℕ, ◌<◌, ◌⊎◌, true, List, []
 use Rattle.head_series.specs.Has.{has}
 use Rattle.head_series.specs.ReferenceSlots.{ReferenceSlotsValue}
 
--- The slots of references, how many series there are, and how many more go in without memory.
+-- The slots of references, the number of series, and how many more can be added without allocating.
 pub record ReferencesValue : Type 0 where
   pub slots : ReferenceSlotsValue
   pub series : ℕ

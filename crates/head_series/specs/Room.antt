@@ -1,19 +1,20 @@
--- What a table has room for.
+-- The room of a table for bindings.
 use Rattle.std.specs.Prelude.{◌≡◌, ℕ, ◌+◌, ◌<◌, ◌≤◌, List, [], ◌∷◌, ◌++◌, length, nat_lt, if◌then◌else◌}
 use Rattle.head_series.specs.Texts.{Text, with_texts, texts_of}
-use Rattle.head_series.specs.Table.{Labels, Table, low_end, has_series, with_series}
+use Rattle.head_series.specs.Table.{Labels, Table, has_series, with_series}
+use Rattle.head_series.specs.ReferenceSlots.{low_end}
 use Rattle.head_series.specs.Bindings.{Binding}
 
 -- the texts once the label set was seen by a table of these series
 abbrev pub texts_seen : List Labels → List Text → Labels → List Text
 texts_seen ss ts ls = if has_series ss ls then ts else with_texts ts (texts_of ls)
 
--- neither the series nor their texts pass the limit where these are bound in turn
+-- if these are bound in turn, neither the series nor their texts pass the limit
 abbrev pub Fits : ℕ → List Labels → List Text → List Binding → Type 0
 Fits most ss ts [] = Unit {0}
 Fits most ss ts (b ∷ bs) = (length (with_series ss b.labels) ≤ most) × (length (texts_seen ss ts b.labels) ≤ most) × Fits most (with_series ss b.labels) (texts_seen ss ts b.labels) bs
 
--- how many texts the label sets have, each counted as often as it stands there
+-- the number of texts of the label sets, each counted as often as it occurs
 abbrev pub text_count : List Binding → ℕ
 text_count [] = 0
 text_count (b ∷ bs) = length (texts_of b.labels) + text_count bs
@@ -22,7 +23,7 @@ text_count (b ∷ bs) = length (texts_of b.labels) + text_count bs
 abbrev pub high_one : ℕ → ℕ
 high_one r = if nat_lt r low_end then 0 else 1
 
--- how many of the references are from `low_end` on
+-- the number of references from `low_end` on
 abbrev pub high_count : List Binding → ℕ
 high_count [] = 0
 high_count (b ∷ bs) = high_one b.reference + high_count bs
@@ -32,7 +33,7 @@ abbrev pub HavePlaces : ℕ → List Binding → Type 0
 HavePlaces many [] = Unit {0}
 HavePlaces many (b ∷ bs) = (b.reference < low_end → b.reference < many) × HavePlaces many bs
 
--- These can be bound in turn, and no memory is taken.
+-- These can be bound in turn without allocating.
 pub record HasRoom (t : Table) (bs : List Binding) : Type 0 where
   pub fits : Fits t.most t.series t.texts bs
   pub rows : length bs ≤ t.room.rows
@@ -42,7 +43,7 @@ pub record HasRoom (t : Table) (bs : List Binding) : Type 0 where
   pub places : HavePlaces t.room.places bs
   pub high : high_count bs ≤ t.room.high
 
--- How much room a binding takes at most: t is before it, u after it. A word of proofs, which no public contract cites.
+-- The most room that a binding takes: t is the table before it, u the table after it. A word of proofs, which no public contract cites.
 pub record Uses (t u : Table) (b : Binding) : Type 0 where
   pub rows : t.room.rows ≤ u.room.rows + 1
   pub lower_bounds : t.room.lower_bounds ≤ u.room.lower_bounds + 1
@@ -69,14 +70,14 @@ pub record Planned : Type 0 where
   pub texts_most : ℕ
   pub high : ℕ
 
--- the plan says what these bindings will make new
+-- the plan has what these bindings will make new
 pub record IsPlanOf (t : Table) (bs : List Binding) (p : Planned) : Type 0 where
   pub series : t.series ++ p.series ≡ series_after t.series bs
   pub texts : t.texts ++ p.texts ≡ texts_after t.series t.texts bs
   pub few : length (t.series ++ p.series) ≤ t.most
   pub few_texts : length (t.texts ++ p.texts) ≤ t.most
 
--- The plan is for these bindings, and they can be made in turn with no memory.
+-- The plan is of these bindings, and they can be made in turn without allocating.
 pub record IsReserved (t : Table) (bs : List Binding) (p : Planned) : Type 0 where
   pub room : HasRoom t bs
   pub plan : IsPlanOf t bs p

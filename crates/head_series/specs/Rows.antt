@@ -42,7 +42,7 @@ label_input l = fed.slice fed.u8 l.name ++ fed.slice fed.u8 l.value
 unfoldable pub labels_hash : List Label → ℕ
 labels_hash ls = folds.finish (fold folds.write folds.initial (flat_map label_input ls))
 
--- n is one more than the last place before b at which xs has h, or 0 if there is none
+-- n is the last place before b at which xs has h, plus 1, or 0 if there is none
 pub record IsLast (xs : List ℕ) (b h n : ℕ) : Type 0 where
   pub within : n ≤ b
   pub has : (s : ℕ) → n ≡ s + 1 → slice_get xs s ≡ Some h

@@ -1,4 +1,4 @@
--- What the fields of a table owe each other: words of proofs, which no public contract cites.
+-- The invariant of a table: words of proofs, which no public contract cites.
 use Rattle.std.specs.Prelude.{◌≡◌, ℕ, ◌≤◌, List, All, map, length, nat_eq}
 use Rattle.std.specs.Map.{lookup}
 use Rattle.wal_record.specs.Labels.{same_labels, IsLabelSet}

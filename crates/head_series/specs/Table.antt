@@ -7,11 +7,7 @@ use Rattle.wal_record.specs.Labels.{same_labels}
 use Rattle.hw_bytes.specs.Lists.{greater_by}
 use Rattle.head_series.specs.Texts.{Text, with_texts, texts_of}
 
--- references below this one have a place in a list, and the others are keys of a map
-abbrev pub low_end : ℕ
-low_end = 4194304
-
--- How much more goes in without memory: rows of series, their lower bounds, their places by hash, and texts; the references below `low_end` that are below `places`, each of which has its place; and this many from `low_end` on.
+-- How much more can be added without allocating: rows of series, their lower bounds, their places by hash, and texts; small references, those below `places`; and this many others. specs/ReferenceSlots says which are small.
 pub record Room : Type 0 where
   pub rows : ℕ
   pub lower_bounds : ℕ
@@ -20,7 +16,7 @@ pub record Room : Type 0 where
   pub places : ℕ
   pub high : ℕ
 
--- What a table shows: the series by slot; the references that have a slot, each beside it, in no particular order (`slot_at`); the greatest reference that was ever bound; the distinct texts of the series; and how many series, and how many texts, there may be. And, of which no call tells, how much more goes in without memory.
+-- The content of a table: the series by slot; the references that have a slot, each with it, in no particular order (`slot_at`); the greatest reference that was ever bound; the distinct texts of the series; and the limit of series and of texts. And how much more can be added without allocating, which no call shows.
 pub record Table : Type 0 where
   pub series : List Labels
   pub slots : List (ℕ × ℕ)
@@ -49,11 +45,11 @@ with_series ss ls = if has_series ss ls then ss else ss ++ ls ∷ []
 abbrev pub texts_with : Table → Labels → List Text
 texts_with t ls = if has_series t.series ls then t.texts else with_texts t.texts (texts_of ls)
 
--- the label set is new, and one series more, or its texts, would pass the limit
+-- the label set is new, and one more series, or its texts, would pass the limit
 abbrev pub IsFull : Table → Labels → Type 0
 IsFull t ls = (has_series t.series ls ≡ false) × ((length t.series ≡ t.most) ⊎ (t.most < length (with_texts t.texts (texts_of ls))))
 
--- the same slots, but that the reference q has the slot s
+-- the slots of references, with that of the reference q replaced by s
 abbrev pub IsWith : (ℕ → Option ℕ) → ℕ → ℕ → (ℕ → Option ℕ) → Type 0
 IsWith old q s new = (r : ℕ) → new r ≡ (if q == r then Some s else old r)
 

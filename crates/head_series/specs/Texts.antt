@@ -24,7 +24,7 @@ abbrev pub texts_of : List Label → List Text
 texts_of [] = []
 texts_of (l ∷ ls) = l.name ∷ l.value ∷ texts_of ls
 
--- texts, how many there may be, and how many more go in without memory
+-- texts, the limit of their number, and how many more can be added without allocating
 pub record TextTable : Type 0 where
   pub texts : List Text
   pub most : ℕ

@@ -1,4 +1,4 @@
-//! The references of one series.
+//! The references of a series, for finding the least.
 
 ghost use Rattle.std.specs.Prelude.{◌≡◌, ◌≤◌, ◌∷◌, ◌⊎◌, [], ℕ, Some, true, slice_index, IfOk};
 ghost use Rattle.head_series.specs.Has.{has};
@@ -10,8 +10,8 @@ use std::alloc::{AllocError, Global};
 use std::marker::Model;
 use std::mem;
 
-/// References that a series was bound to, the least first, and the others in a heap: all that are bound to it now, and
-/// maybe some that were bound anew to another since. Contracts see them as a list.
+/// References that were bound to a series: the least one, and the others in a heap. All that are bound to it now are among them,
+/// and maybe some that were bound anew to another series since. Contracts see a list.
 #[derive(Debug, Drop)]
 pub(crate) struct Candidates {
     least: u64,
@@ -31,7 +31,7 @@ impl Model for Candidates {
 }
 
 impl Candidates {
-    // One reference.
+    // Returns one reference alone.
     pub(crate) fn new(reference: u64) -> Candidates
         ensures { result ≡ reference ∷ [] }
     {
@@ -41,7 +41,7 @@ impl Candidates {
         }
     }
 
-    // The least of them.
+    // Returns the least of them.
     pub(crate) fn least(&self) -> u64
         ensures first { result ≡ slice_index self.now 0 }
         ensures least { (r : ℕ) → has self.now r ≡ true → result ≤ r }
@@ -49,7 +49,7 @@ impl Candidates {
         self.least
     }
 
-    // Puts in one more, in a box that was made for it.
+    // Adds a reference, in a box that was made for it.
     pub(crate) fn add(&mut self, reference: u64, node: Box<Heap>)
         ensures { (r : ℕ) → has self.new r ≡ has (reference ∷ self.old) r }
     {
@@ -62,7 +62,7 @@ impl Candidates {
         self.others = Link::Full(with(others, least.max(reference), 0, node));
     }
 
-    // Lets go of those before the least that is bound to the series now. Each goes once, and came by a binding.
+    // Drops those below the least that is bound to the series now. Each is dropped at most once per binding.
     pub(crate) fn settle(&mut self, slots: &ReferenceSlots, slot: u32)
         ensures kept { (r : ℕ) → slot_of slots.now r ≡ Some slot → has self.old r ≡ true → has self.new r ≡ true }
         ensures first { (slot_of slots.now (slice_index self.new 0) ≡ Some slot) ⊎ ((r : ℕ) → slot_of slots.now r ≡ Some slot → has self.new r ≡ true → ⊥) }
@@ -78,7 +78,7 @@ impl Candidates {
         }
     }
 
-    // The same references, in memory of their own.
+    // Returns a copy of the references.
     pub(crate) fn copy(&self, alloc: Global) -> Result<Candidates, AllocError>
         ensures { IfOk result (λ copy. copy ≡ self.now) }
     {

@@ -1,4 +1,4 @@
-//! The order of label sets that are kept as numbers of texts.
+//! Comparison of label sets that are kept as numbers of texts.
 
 ghost use Rattle.std.specs.Prelude.{◌≡◌, ◌<◌, [], length, slice_index_or};
 ghost use Rattle.std.specs.Cmp.Lexicographic.{slice_cmp};
@@ -9,7 +9,7 @@ ghost use Rattle.head_series.specs.Rows.{labels_in, named, AreWithin};
 use crate::interner::Interner;
 use std::cmp::Ordering;
 
-// The order of two texts. Equal numbers are not looked at.
+// Compares two texts by their numbers. Reads the texts only if the numbers differ.
 fn compare_texts(texts: &Interner, first: u32, second: u32) -> Ordering
     requires first { first < length texts.now.texts }
     requires second { second < length texts.now.texts }
@@ -21,7 +21,7 @@ fn compare_texts(texts: &Interner, first: u32, second: u32) -> Ordering
     texts.bytes(first).cmp(texts.bytes(second))
 }
 
-// The order of two labels.
+// Compares two labels.
 fn compare_pairs(texts: &Interner, first: (u32, u32), second: (u32, u32)) -> Ordering
     requires first { (first.0 < length texts.now.texts) × (first.1 < length texts.now.texts) }
     requires second { (second.0 < length texts.now.texts) × (second.1 < length texts.now.texts) }
@@ -33,7 +33,7 @@ fn compare_pairs(texts: &Interner, first: (u32, u32), second: (u32, u32)) -> Ord
     }
 }
 
-// The order of two label sets.
+// Compares two label sets.
 pub(crate) fn compare_numbers(
     texts: &Interner,
     first: &[(u32, u32)],

@@ -7,7 +7,7 @@ ghost use Rattle.head_series.specs.Rows.{labels_hash};
 use std::hash::{FoldHasher, Hash, Hasher};
 use wal_record::LabelSet;
 
-// The hash of the names and values in order. By `ordered` a caller learns what holds of every label set.
+// Returns the hash of the names and values in order. The clause `ordered` says what holds of every label set.
 pub(crate) fn hash_of(labels: &LabelSet) -> u64
     ensures hash { result ≡ labels_hash labels.now }
     ensures ordered { IsLabelSet labels.now }

@@ -1,4 +1,4 @@
-//! References, the least first.
+//! A heap of references, the least first.
 
 ghost use Rattle.std.specs.Prelude.{◌≡◌, ◌+◌, ◌≤◌, ◌∷◌, [], ℕ, true, length, slice_index, IfOk};
 ghost use Rattle.head_series.specs.Has.{has};
@@ -8,8 +8,8 @@ use std::alloc::{AllocError, Global};
 use std::marker::Model;
 use std::mem;
 
-/// A reference, and two heaps of greater ones. A reference goes below by its bits, the last one first, so that a heap is
-/// not deeper than a reference has bits, whatever comes in whatever order. Contracts see the references, the least first.
+/// A reference, and two heaps of greater ones. Which of the two a reference is added to depends on its bits, the last bit first, so a
+/// heap is never deeper than a reference has bits. Contracts see the references, the least first.
 #[cycle(heap)]
 #[derive(Debug, Drop)]
 pub(crate) struct Heap {
@@ -47,7 +47,7 @@ impl Model for Heap {
 }
 
 impl Heap {
-    // One reference.
+    // Returns one reference alone.
     fn single(reference: u64) -> Heap
         ensures { result ≡ reference ∷ [] }
     {
@@ -58,12 +58,12 @@ impl Heap {
         }
     }
 
-    // A box for a reference to come.
+    // Allocates a box for a reference that is added later.
     pub(crate) fn boxed(alloc: Global) -> Result<Box<Heap>, AllocError> {
         Ok(Box::new(alloc, Heap::single(0))?)
     }
 
-    // The least reference.
+    // Returns the least reference.
     pub(crate) fn least(&self) -> u64
         ensures first { result ≡ slice_index self.now 0 }
         ensures least { (r : ℕ) → has self.now r ≡ true → result ≤ r }
@@ -71,7 +71,7 @@ impl Heap {
         self.least
     }
 
-    // The same heap, in memory of its own.
+    // Returns a copy of the heap.
     #[cycle(copies)]
     fn copy(&self, alloc: Global) -> Result<Heap, AllocError>
         ensures { IfOk result (λ copy. copy ≡ self.now) }
@@ -84,12 +84,12 @@ impl Heap {
     }
 }
 
-// Whether the bit of a reference at a depth is 0.
+// Returns whether the bit of a reference at a depth is 0.
 fn is_even(reference: u64, depth: u32) -> bool {
     reference.wrapping_shr(depth) % 2 == 0
 }
 
-// The heap with one reference more, in a box that was made for it.
+// Returns the heap with one more reference, in a box that was made for it.
 pub(crate) fn with(link: Link, reference: u64, depth: u32, mut node: Box<Heap>) -> Box<Heap>
     ensures { (r : ℕ) → has result.value r ≡ has (reference ∷ items_of link) r }
 {
@@ -126,7 +126,7 @@ pub(crate) fn with(link: Link, reference: u64, depth: u32, mut node: Box<Heap>) 
     }
 }
 
-// What is left of a heap without its least reference.
+// Returns the heap without its least reference.
 pub(crate) fn without_least(mut heap: Box<Heap>) -> Link
     ensures fewer { length heap.value ≡ length (items_of result) + 1 }
     ensures same { (r : ℕ) → has heap.value r ≡ has (slice_index heap.value 0 ∷ items_of result) r }
@@ -168,7 +168,7 @@ pub(crate) fn without_least(mut heap: Box<Heap>) -> Link
     }
 }
 
-// The same heap, in memory of its own.
+// Returns a copy of a heap.
 #[cycle(copies)]
 pub(crate) fn copied(alloc: Global, link: &Link) -> Result<Link, AllocError>
     ensures { IfOk result (λ copy. items_of copy ≡ items_of link.now) }

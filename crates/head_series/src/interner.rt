@@ -1,4 +1,4 @@
-//! Numbers for texts.
+//! An interner: numbers for texts.
 
 ghost use Rattle.std.specs.Prelude.{take, [], ◌++◌, ◌+◌, ◌^◌, ◌≡◌, ◌<◌, ◌≤◌, ◌⊎◌, Some, None, Err, false, true, length, slice_get, IfOk, OnOk, OnErr, IsOk};
 ghost use Rattle.wal_record.specs.Labels.{same_text};
@@ -13,12 +13,12 @@ use std::fmt;
 use std::marker::Model;
 use wal_record::LabelSet;
 
-/// Why a text has no number.
+/// An error of an interner: why a text was not numbered.
 #[derive(Clone, Copy, Debug, PartialEq, Eq)]
 pub enum InternFault {
-    /// The text is new, and there are as many texts as there may be.
+    /// The text is new, and the limit of texts is reached.
     Full,
-    /// Memory ran out.
+    /// Out of memory.
     Memory,
 }
 
@@ -55,15 +55,15 @@ impl<T: Drop> From<AllocFailed<T>> for InternFault {
     }
 }
 
-/// Texts, any bytes, each kept once and numbered from 0 in the order of first sight. Contracts see the list of them, and
-/// how many there may be.
+/// Texts, of any bytes, each kept once and numbered from 0 in the order of first sight. Contracts see the list of texts and the limit
+/// of their number.
 #[derive(Debug)]
 pub struct Interner {
     texts: IndexSet<Vec<u8>>,
     most: u32,
 }
 
-// Written out: where another function lets go of the texts, its proof has one call, and not a copy of this.
+// Written out so that the proof of a function that drops the texts has one call, and not a copy of this.
 impl Drop for Interner {
     fn drop(self) {
         let Interner {
@@ -88,7 +88,7 @@ impl Model for Interner {
 }
 
 impl Interner {
-    /// No texts yet, and at most this many.
+    /// Returns an interner of no texts, for at most `most` texts. Allocates nothing.
     pub fn new(alloc: Global, most: u32) -> Interner
         ensures texts { result.texts ≡ [] }
         ensures most { result.most ≡ most }
@@ -99,22 +99,22 @@ impl Interner {
         }
     }
 
-    /// How many texts there are.
+    /// Returns the number of texts.
     pub fn len(&self) -> usize
         ensures count { result ≡ length self.now.texts }
         ensures few { result ≤ self.now.most }
         ensures fits { result < 2 ^ 32 }
     {
-        // for the proof, which knows the invariant where a field is named
+        // gives the proof the invariant, which it knows where a field is named
         let _most = self.most;
         self.texts.len()
     }
 
-    // The number that a text has.
+    // Returns the number of a text, or `None` if it has none.
     fn find(&self, text: &[u8]) -> Option<u32>
         ensures { result ≡ place (same_text text.now) self.now.texts }
     {
-        // for the proof, which knows the invariant where a field is named
+        // gives the proof the invariant, which it knows where a field is named
         let _most = self.most;
         match self.texts.get_index_of(text) {
             Some(index) => Some(index as u32),
@@ -122,15 +122,15 @@ impl Interner {
         }
     }
 
-    /// The number of a text, a copy of which is kept if it is new. `Full` where it is new and there are as many texts as
-    /// there may be, `Memory` where memory ran out; the texts stay as they were on both.
+    /// Returns the number of a text, of which it keeps a copy if it is new. Returns `Full` if it is new and the limit of texts is
+    /// reached, and `Memory` if out of memory; the texts are then unchanged.
     pub fn number(&mut self, text: &[u8]) -> Result<u32, InternFault>
         ensures texts { OnOk result (self.new.texts ≡ with_text self.old.texts text.now) }
         ensures number { IfOk result (λ n. place (same_text text.now) self.new.texts ≡ Some n) }
         ensures within { IfOk result (λ n. n < length self.new.texts) }
         ensures full { (result ≡ Err InternFault.Full) → (has_text self.old.texts text.now ≡ false) × (length self.old.texts ≡ self.old.most) }
         ensures room { IsOk result → (has_text self.old.texts text.now ≡ true) ⊎ (length self.old.texts < self.old.most) }
-        // Where nothing grows no memory is asked for.
+        // Where nothing grows, nothing is allocated.
         ensures known { has_text self.old.texts text.now ≡ true → IsOk result }
         ensures limit { has_text self.old.texts text.now ≡ false → length self.old.texts ≡ self.old.most → result ≡ Err InternFault.Full }
         ensures kept { OnErr result (self.new.texts ≡ self.old.texts) }
@@ -149,16 +149,16 @@ impl Interner {
         Ok(number as u32)
     }
 
-    // Whether the text of that number is this one.
+    // Returns whether the text of a number is this one.
     fn is_at(&self, number: u32, text: &[u8]) -> bool
         ensures { result ≡ true → place (same_text text.now) self.now.texts ≡ Some number }
     {
-        // for the proof, which knows the invariant where a field is named
+        // gives the proof the invariant, which it knows where a field is named
         let _most = self.most;
         (number as usize) < self.len() && self.bytes(number) == text
     }
 
-    // As `number`. The text is looked at first where it may stand.
+    // Returns the number of a text, as `number` does. Compares it first with the text of the number `near`.
     fn number_near(&mut self, text: &[u8], guess: u32) -> Result<u32, InternFault>
         ensures texts { OnOk result (self.new.texts ≡ with_text self.old.texts text.now) }
         ensures number { IfOk result (λ n. place (same_text text.now) self.new.texts ≡ Some n) }
@@ -174,7 +174,7 @@ impl Interner {
         self.number(text)
     }
 
-    // The number of a text, which is kept if it is new. There is room for it.
+    // Returns the number of a text, which it keeps if it is new. Has room for it.
     fn put(&mut self, text: Vec<u8>) -> u32
         requires room { 0 < self.old.room }
         requires few { has_text self.old.texts text.items ≡ false → length self.old.texts < self.old.most }
@@ -196,7 +196,7 @@ impl Interner {
         number as u32
     }
 
-    // The numbers of the texts of a label set, of which copies were made beforehand. There is room for them.
+    // Returns the numbers of the texts of a label set, of which copies were made beforehand. Has room for them.
     pub(crate) fn put_all(&mut self, ready: Ready) -> Vec<(u32, u32)>
         requires room { length (texts_of ready) ≤ self.old.room }
         requires few { length (with_texts self.old.texts (texts_of ready)) ≤ self.old.most }
@@ -212,23 +212,23 @@ impl Interner {
             let second = self.put(value);
             numbers.push_reserved((first, second));
         }
-        // for the proof, which knows the invariant where a field is named
+        // gives the proof the invariant, which it knows where a field is named
         let _texts = &self.texts;
         numbers
     }
 
-    // Makes room for this many texts more.
+    // Makes room for this many more texts.
     pub(crate) fn reserve(&mut self, many: usize) -> Result<(), AllocError>
         ensures texts { self.new.texts ≡ self.old.texts }
         ensures most { self.new.most ≡ self.old.most }
         ensures room { OnOk result (many ≤ self.new.room) }
     {
-        // for the proof, which knows the invariant where a field is named
+        // gives the proof the invariant, which it knows where a field is named
         let _most = self.most;
         self.texts.reserve(many)
     }
 
-    // Keeps in `more` the texts of a label set that are not here.
+    // Adds to `more` the texts of a label set that this interner has not.
     pub(crate) fn note(&self, more: &mut Interner, labels: &LabelSet) -> Result<(), InternFault>
         ensures { OnOk result (self.now.texts ++ more.new.texts ≡ with_texts (self.now.texts ++ more.old.texts) (texts_of labels.now)) }
     {
@@ -240,7 +240,7 @@ impl Interner {
         Ok(())
     }
 
-    // Keeps a text in `more` if it is not here.
+    // Adds a text to `more` if this interner has it not.
     fn note_text(&self, more: &mut Interner, text: &[u8]) -> Result<(), InternFault>
         ensures { OnOk result (self.now.texts ++ more.new.texts ≡ with_text (self.now.texts ++ more.old.texts) text.now) }
     {
@@ -253,7 +253,7 @@ impl Interner {
         }
     }
 
-    /// The text with the number.
+    /// Returns the text with a number, borrowed from the interner.
     pub fn bytes(&self, number: u32) -> &[u8]
         requires { number < length self.now.texts }
         ensures { slice_get self.now.texts number ≡ Some result.now }
@@ -261,18 +261,18 @@ impl Interner {
         self.texts[number as usize].as_slice()
     }
 
-    // Keeps the first texts only.
+    // Keeps only the first texts, and drops the others.
     fn truncate(&mut self, many: usize)
         ensures texts { self.new.texts ≡ take many self.old.texts }
         ensures most { self.new.most ≡ self.old.most }
     {
-        // for the proof, which knows the invariant where a field is named
+        // gives the proof the invariant, which it knows where a field is named
         let _most = self.most;
         self.texts.truncate(many);
     }
 
-    // The numbers of the texts of a label set, each looked for first where the label set with the numbers `near` has it. On an error the texts
-    // stay as they were.
+    // Returns the numbers of the texts of a label set. Compares each text first with the one at the same place of the label set with the
+    // numbers `near`. On an error the texts are unchanged.
     pub(crate) fn numbers(
         &mut self,
         labels: &LabelSet,
@@ -297,7 +297,7 @@ impl Interner {
         }
     }
 
-    // As `numbers`, but on an error there may be more texts.
+    // Returns the numbers of a label set's texts, as `numbers` does. On an error, texts may have been added.
     fn numbers_in(
         &mut self,
         labels: &LabelSet,
@@ -325,12 +325,12 @@ impl Interner {
             };
             numbers.push((first, second))?;
         }
-        // for the proof, which knows the invariant where a field is named
+        // gives the proof the invariant, which it knows where a field is named
         let _texts = &self.texts;
         Ok(numbers)
     }
 
-    // The same texts, in memory of their own.
+    // Returns a copy of the texts.
     pub(crate) fn copy(&self) -> Result<Interner, AllocError>
         ensures texts { IfOk result (λ copy. copy.texts ≡ self.now.texts) }
         ensures most { IfOk result (λ copy. copy.most ≡ self.now.most) }

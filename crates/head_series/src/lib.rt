@@ -1,8 +1,8 @@
-//! Label texts and series in the order of first sight.
+//! The table of series and of the references that name them.
 //!
-//! Each distinct label set is one series, numbered by its slot, whatever references a log gives it; each label text is kept
-//! once. A look-up by reference is one step, and one by label set takes no memory. Where a list of bindings is to be made whole
-//! or not at all, `plan` and `reserve` make room for it, and `bind_ready` then can't fail.
+//! Each distinct label set is one series, numbered by its slot in the order of first sight, whatever references a log gives it. Each
+//! label text is kept once. A look-up by reference is one step, and a look-up by label set allocates nothing. To make a list of
+//! bindings entirely or not at all, use `plan` and `reserve`, which make room for it; `bind_ready` then never fails.
 #![tactic(auto)]
 
 mod candidates;
@@ -13,11 +13,13 @@ mod interner;
 mod laws;
 mod maps;
 mod plan;
+mod planning;
 mod ready;
 mod reference_slots;
 mod references;
 mod rows;
 mod table;
+mod views;
 
 pub use interner::{InternFault, Interner};
 pub use laws::{greatest_reference, least_reference, room_for_first, slot_is_place};

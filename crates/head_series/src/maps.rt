@@ -1,4 +1,4 @@
-//! Maps of numbers.
+//! Helpers for maps of numbers.
 
 ghost use Rattle.std.specs.Prelude.{◌≡◌, ◌==◌, ℕ, Some, nat_eq, if◌then◌else◌, IfOk, OnOk};
 ghost use Rattle.std.specs.Map.{lookup};
@@ -6,7 +6,7 @@ ghost use Rattle.std.specs.Map.{lookup};
 use indexmap::IndexMap;
 use std::alloc::AllocError;
 
-// Gives a key the value.
+// Sets the value of a key.
 fn put(map: &mut IndexMap<u64, u32>, key: u64, value: u32) -> Result<(), AllocError>
     ensures { OnOk result ((k : ℕ) → lookup (nat_eq k) map.new.entries ≡ (if key == k then Some value else lookup (nat_eq k) map.old.entries)) }
 {
@@ -14,7 +14,7 @@ fn put(map: &mut IndexMap<u64, u32>, key: u64, value: u32) -> Result<(), AllocEr
     Ok(())
 }
 
-// A map with the same value for each key.
+// Returns a map with the same value for each key.
 pub(crate) fn copied(map: &IndexMap<u64, u32>) -> Result<IndexMap<u64, u32>, AllocError>
     ensures { IfOk result (λ copy. (k : ℕ) → lookup (nat_eq k) copy.entries ≡ lookup (nat_eq k) map.now.entries) }
 {

@@ -1,4 +1,4 @@
-//! What bindings that are yet to be made will need.
+//! Plans of bindings.
 
 ghost use Rattle.std.specs.Prelude.{◌≡◌, ◌↔◌, ◌≤◌, ◌+◌, ◌*◌, [], false, length, true, OnOk};
 ghost use Rattle.head_series.specs.Room.{high_one};
@@ -11,8 +11,8 @@ use std::alloc::{AllocError, Global};
 use std::marker::Model;
 use wal_record::LabelSet;
 
-/// What a list of bindings, yet to be made in one table, makes new there, and how much room they need at most. Contracts see
-/// it as a `Planned`. `SeriesTable::plan` makes one, and `SeriesTable::reserve` notes a binding in it.
+/// A plan of bindings in a table: which series and texts they will make new there, and how much room they need at most.
+/// `SeriesTable::plan` returns an empty plan, and `SeriesTable::reserve` adds a binding to it. Contracts see a `Planned`.
 #[derive(Debug)]
 pub struct Plan {
     pub(crate) series: SeriesTable,
@@ -22,7 +22,7 @@ pub struct Plan {
     pub(crate) high: usize,
 }
 
-// Written out: where another function lets go of a plan, its proof has one call, and not a copy of this.
+// Written out so that the proof of a function that drops a plan has one call, and not a copy of this.
 impl Drop for Plan {
     fn drop(self) {
         let Plan {
@@ -44,7 +44,7 @@ impl Model for Plan {
 }
 
 impl Plan {
-    // No bindings yet.
+    // Returns the plan of no bindings.
     pub(crate) fn new(alloc: Global) -> Plan
         ensures series { result.series ≡ [] }
         ensures texts { result.texts ≡ [] }
@@ -61,7 +61,7 @@ impl Plan {
         }
     }
 
-    // Whether a label set is in neither a table nor this plan for it, and both together have as many series as there may be.
+    // Returns whether a label set is new to both the table and this plan for it, and both together are at the limit of series.
     pub(crate) fn is_at_limit(&self, table: &SeriesTable, most: u32, labels: &LabelSet) -> bool
         ensures { (result ≡ true) ↔ ((has_series table.now.series labels.now ≡ false) × (has_series self.now.series labels.now ≡ false) × (most ≤ length table.now.series + length self.now.series)) }
     {
@@ -79,7 +79,7 @@ impl Plan {
         }
     }
 
-    // Counts one binding more.
+    // Adds a binding to the counts.
     pub(crate) fn count(&mut self, reference: u64, labels: &LabelSet) -> Result<(), AllocError>
         ensures series { self.new.series ≡ self.old.series }
         ensures texts { self.new.texts ≡ self.old.texts }

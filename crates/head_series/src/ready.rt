@@ -1,4 +1,4 @@
-//! What a new label set needs, made beforehand.
+//! What binding a label set needs, made beforehand.
 
 ghost use Rattle.std.specs.Prelude.{◌≡◌, ◌≤◌, [], length, map, reverse, IfOk};
 ghost use Rattle.std.specs.Vec.{vec_capacity};
@@ -9,8 +9,8 @@ use std::alloc::{AllocError, Global};
 use std::marker::Model;
 use wal_record::LabelSet;
 
-/// What binding a label set needs where that is new: copies of its texts, and a list with room for their numbers; and what
-/// noting the reference needs where it is not. Contracts see the label set.
+/// The memory for binding a label set: for a new one copies of its texts and a list with room for their numbers, and for a known one a
+/// box for the reference. Contracts see the label set.
 #[derive(Debug)]
 pub struct Ready {
     // the last label first
@@ -19,7 +19,7 @@ pub struct Ready {
     node: Box<Heap>,
 }
 
-// Written out: where another function lets go of these, its proof has one call, and not a copy of this.
+// Written out so that the proof of a function that drops these has one call, and not a copy of this.
 impl Drop for Ready {
     fn drop(self) {
         let Ready {
@@ -44,7 +44,7 @@ impl Model for Ready {
 }
 
 impl Ready {
-    /// What the label set needs, whatever table it is for. The error says that memory ran out.
+    /// Allocates what binding a label set needs, in any table, or returns an error if out of memory.
     pub fn new(alloc: Global, labels: &LabelSet) -> Result<Ready, AllocError>
         ensures { IfOk result (λ ready. ready ≡ labels.now) }
     {
@@ -66,7 +66,7 @@ impl Ready {
         })
     }
 
-    // The texts, the last label first, and the list with room for their numbers.
+    // Returns the texts, the last label first, and the list with room for their numbers.
     pub(crate) fn into_parts(self) -> (Vec<(Vec<u8>, Vec<u8>)>, Vec<(u32, u32)>)
         ensures texts { reverse (map (λ p. label p.0.items p.1.items) result.0.items) ≡ self }
         ensures numbers { result.1.items ≡ [] }
@@ -80,7 +80,7 @@ impl Ready {
         (texts, numbers)
     }
 
-    // The box for the reference.
+    // Returns the box for the reference.
     pub(crate) fn into_node(self) -> Box<Heap> {
         let Ready {
             texts: _texts,

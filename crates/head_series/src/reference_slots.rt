@@ -1,4 +1,4 @@
-//! The slot of each reference.
+//! The slots of references.
 
 ghost use Rattle.std.specs.Prelude.{◌≡◌, ◌<◌, ◌≤◌, ◌+◌, ◌^◌, ℕ, Some, None, true, false, length, IfOk, OnOk};
 ghost use Rattle.head_series.specs.ReferenceSlots.{low_end, slot_of, HasRoom};
@@ -10,17 +10,17 @@ use indexmap::IndexMap;
 use std::alloc::{AllocError, Global};
 use std::marker::Model;
 
-// References below this one have a place in a list.
+// References below this one have a place in the list `low`.
 pub(crate) const LOW_END: u64 = 4_194_304;
 
-/// The slot of each reference: small references in a list, the others in a map.
+/// The slots of references: those of small references in a list, the others in a map.
 #[derive(Debug)]
 pub(crate) struct ReferenceSlots {
     low: Vec<u32>,
     high: IndexMap<u64, u32>,
 }
 
-// Written out: where another function lets go of these, its proof has one call, and not a copy of this.
+// Written out so that the proof of a function that drops these has one call, and not a copy of this.
 impl Drop for ReferenceSlots {
     fn drop(self) {
         let ReferenceSlots {
@@ -43,7 +43,7 @@ impl Model for ReferenceSlots {
 }
 
 impl ReferenceSlots {
-    // No reference has a slot.
+    // Returns the slots of no references.
     pub(crate) fn new(alloc: Global) -> ReferenceSlots
         ensures { (r : ℕ) → slot_of result r ≡ None }
     {
@@ -53,7 +53,7 @@ impl ReferenceSlots {
         }
     }
 
-    // The slot of a reference.
+    // Returns the slot of a reference, or `None` if it has none.
     pub(crate) fn find(&self, reference: u64) -> Option<u32>
         ensures { result ≡ slot_of self.now reference }
     {
@@ -69,7 +69,7 @@ impl ReferenceSlots {
         }
     }
 
-    // Whether a reference has the slot.
+    // Returns whether a reference has this slot.
     pub(crate) fn has(&self, reference: u64, slot: u32) -> bool
         ensures yes { result ≡ true → slot_of self.now reference ≡ Some slot }
         ensures no { result ≡ false → slot_of self.now reference ≡ Some slot → ⊥ }
@@ -96,7 +96,7 @@ impl ReferenceSlots {
         }
     }
 
-    // Makes a place for the slot of a reference below the bound, and room for those of this many from the bound on.
+    // Makes a place for the slot of a small reference, and room for this many others.
     pub(crate) fn make_room(&mut self, reference: u64, many: usize) -> Result<(), AllocError>
         ensures same { (r : ℕ) → slot_of self.new r ≡ slot_of self.old r }
         ensures place { OnOk result (reference < low_end → reference < length self.new.low) }
@@ -112,7 +112,7 @@ impl ReferenceSlots {
         self.high.reserve(many)
     }
 
-    // Gives a reference the slot.
+    // Sets the slot of a reference.
     pub(crate) fn set(&mut self, reference: u64, slot: u32)
         requires room { HasRoom self.old reference }
         requires small { slot + 1 < 2 ^ 32 }
@@ -127,7 +127,7 @@ impl ReferenceSlots {
         }
     }
 
-    // The same slots, in memory of their own.
+    // Returns a copy of the slots.
     pub(crate) fn copy(&self) -> Result<ReferenceSlots, AllocError>
         ensures { IfOk result (λ copy. (r : ℕ) → slot_of copy r ≡ slot_of self.now r) }
     {

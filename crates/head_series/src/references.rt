@@ -1,4 +1,4 @@
-//! The slot of each reference, and the least reference of each slot.
+//! The slots of references, and the least reference of each slot.
 
 ghost use Rattle.std.specs.Prelude.{◌≡◌, ◌<◌, ◌≤◌, ◌+◌, ◌^◌, ℕ, Some, None, true, length, IfOk, IfSome, OnOk, false};
 ghost use Rattle.head_series.specs.ReferenceSlots.{low_end, slot_of};
@@ -11,16 +11,16 @@ use crate::reference_slots::ReferenceSlots;
 use std::alloc::{AllocError, Global};
 use std::marker::Model;
 
-/// The slot of each reference, and for each series what its least reference is found by: the references that it was bound
-/// to, less those that are known to be another's. Contracts see the slots, how many series there are, and how many more go
-/// in without memory.
+/// The slots of references, and for each series the references that were bound to it, except those that are known to be bound to another
+/// now; its least reference is found among these. Contracts see the slots, the number of series, and how many more can be added without
+/// allocating.
 #[derive(Debug)]
 pub(crate) struct References {
     slots: ReferenceSlots,
     candidates: Vec<Candidates>,
 }
 
-// Written out: where another function lets go of these, its proof has one call, and not a copy of this.
+// Written out so that the proof of a function that drops these has one call, and not a copy of this.
 impl Drop for References {
     fn drop(self) {
         let References {
@@ -44,7 +44,7 @@ impl Model for References {
 }
 
 impl References {
-    // No series, and no reference has a slot.
+    // Returns the references of no series.
     pub(crate) fn new(alloc: Global) -> References
         ensures slots { (r : ℕ) → slot_of result.slots r ≡ None }
         ensures series { result.series ≡ 0 }
@@ -55,17 +55,17 @@ impl References {
         }
     }
 
-    // The slot of a reference.
+    // Returns the slot of a reference, or `None` if it has none.
     pub(crate) fn find(&self, reference: u64) -> Option<u32>
         ensures slot { result ≡ slot_of self.now.slots reference }
         ensures within { IfSome result (λ slot. slot < self.now.series) }
     {
-        // for the proof, which knows the invariant where a field is named
+        // gives the proof the invariant, which it knows where a field is named
         let _series = self.candidates.len();
         self.slots.find(reference)
     }
 
-    // Whether a reference has the slot.
+    // Returns whether a reference has this slot.
     pub(crate) fn has(&self, reference: u64, slot: u32) -> bool
         ensures yes { result ≡ true → slot_of self.now.slots reference ≡ Some slot }
         ensures no { result ≡ false → slot_of self.now.slots reference ≡ Some slot → ⊥ }
@@ -73,7 +73,7 @@ impl References {
         self.slots.has(reference, slot)
     }
 
-    // The least reference that has the slot.
+    // Returns the least reference that has a slot, or `None` if no reference has it.
     pub(crate) fn least(&self, slot: u32) -> Option<u64>
         requires { slot < self.now.series }
         ensures { IsLeast (λ r. slot_of self.now.slots r ≡ Some slot) result }
@@ -103,12 +103,12 @@ impl References {
         ensures place { OnOk result (reference < low_end → reference < length self.new.slots.low) }
         ensures high { OnOk result (high_one reference ≤ self.new.slots.room) }
     {
-        // for the proof, which knows the invariant where a field is named
+        // gives the proof the invariant, which it knows where a field is named
         let _series = self.candidates.len();
         self.slots.reserve(reference)
     }
 
-    // Makes a place for the slot of a reference below the bound, and room for those of this many from the bound on.
+    // Makes a place for the slot of a small reference, and room for this many others.
     pub(crate) fn make_room(&mut self, reference: u64, many: usize) -> Result<(), AllocError>
         ensures same { (r : ℕ) → slot_of self.new.slots r ≡ slot_of self.old.slots r }
         ensures series { self.new.series ≡ self.old.series }
@@ -117,12 +117,12 @@ impl References {
         ensures places { length self.old.slots.low ≤ length self.new.slots.low }
         ensures room { OnOk result (many ≤ self.new.slots.room) }
     {
-        // for the proof, which knows the invariant where a field is named
+        // gives the proof the invariant, which it knows where a field is named
         let _series = self.candidates.len();
         self.slots.make_room(reference, many)
     }
 
-    // Gives a reference the slot of a series, in a box that was made for it.
+    // Sets the slot of a reference to that of a series. The box was made for the reference.
     pub(crate) fn point(&mut self, reference: u64, slot: u32, node: Box<Heap>)
         requires slot { slot < self.old.series }
         requires place { reference < low_end → reference < length self.old.slots.low }
@@ -144,7 +144,7 @@ impl References {
         }
     }
 
-    // Gives a reference the slot of a new series.
+    // Adds a series, and sets the slot of a reference to its slot.
     pub(crate) fn push(&mut self, reference: u64)
         requires series { 0 < self.old.room }
         requires place { reference < low_end → reference < length self.old.slots.low }
@@ -166,7 +166,7 @@ impl References {
         }
     }
 
-    // The same references, in memory of their own.
+    // Returns a copy of the references.
     pub(crate) fn copy(&self) -> Result<References, AllocError>
         ensures slots { IfOk result (λ copy. (r : ℕ) → slot_of copy.slots r ≡ slot_of self.now.slots r) }
         ensures series { IfOk result (λ copy. copy.series ≡ self.now.series) }
@@ -178,7 +178,7 @@ impl References {
     }
 }
 
-// The same lists of references, in memory of their own.
+// Returns copies of the references of each series.
 fn copied_candidates(
     alloc: Global,
     candidates: &[Candidates],

@@ -1,4 +1,4 @@
-//! How a series is kept: numbers of texts, in chains of equal hashes.
+//! Rows: series as numbers of texts, in chains of equal hashes.
 
 ghost use Rattle.std.specs.Prelude.{◌≡◌, ◌+◌, ◌≤◌, ◌<◌, ◌==◌, ℕ, false, map, nat_eq, length, if◌then◌else◌, IfOk, IsTrue};
 ghost use Rattle.std.specs.Map.{lookup};
@@ -10,15 +10,15 @@ use indexmap::IndexMap;
 use std::alloc::{AllocError, Global};
 use wal_record::LabelSet;
 
-/// The text numbers of a series, and one more than the slot of the series before it whose label set has the same hash, or
-/// 0.
+/// The text numbers of a series, and the slot of the last series before it whose label set has the same hash, plus 1, or 0 if there is
+/// none.
 #[derive(Debug, Drop)]
 pub(crate) struct Row {
     pub(crate) numbers: Vec<(u32, u32)>,
     pub(crate) previous: u32,
 }
 
-// Whether these numbers are those of the label set.
+// Returns whether these are the numbers of a label set's texts.
 pub(crate) fn is_named(texts: &Interner, numbers: &[(u32, u32)], labels: &LabelSet) -> bool
     requires { AreWithin (length texts.now.texts) numbers.now }
     ensures yes { IsTrue result → labels.now ≡ labels_in texts.now.texts numbers.now }
@@ -39,7 +39,7 @@ pub(crate) fn is_named(texts: &Interner, numbers: &[(u32, u32)], labels: &LabelS
     true
 }
 
-// The text numbers of the last series. The next one mostly has the same names, and many of the same values.
+// Returns the text numbers of the last series. The next series mostly has the same names and many of the same values.
 pub(crate) fn last_numbers(rows: &[Row]) -> &[(u32, u32)] {
     match rows.last() {
         Some(row) => &row.numbers,
@@ -47,7 +47,7 @@ pub(crate) fn last_numbers(rows: &[Row]) -> &[(u32, u32)] {
     }
 }
 
-// One more than the slot of the last series whose label set has the hash, or 0.
+// Returns the slot of the last series whose label set has a hash, plus 1, or 0 if there is none.
 pub(crate) fn last_with(last_by_hash: &IndexMap<u64, u32>, hash: u64) -> u32
     ensures { result ≡ or_zero (lookup (nat_eq hash) last_by_hash.now.entries) }
 {
@@ -57,7 +57,7 @@ pub(crate) fn last_with(last_by_hash: &IndexMap<u64, u32>, hash: u64) -> u32
     }
 }
 
-// Notes one more than the slot of the last series with the hash.
+// Sets the last series with a hash; `after` is its slot plus 1.
 pub(crate) fn note_last(last_by_hash: &mut IndexMap<u64, u32>, hash: u64, last: u32)
     requires { 0 < spare last_by_hash.old }
     ensures room { spare last_by_hash.old ≤ spare last_by_hash.new + 1 }
@@ -66,7 +66,7 @@ pub(crate) fn note_last(last_by_hash: &mut IndexMap<u64, u32>, hash: u64, last: 
     last_by_hash.insert(hash, last).unwrap();
 }
 
-// The same rows, in memory of their own.
+// Returns a copy of the rows.
 pub(crate) fn copied_rows(alloc: Global, rows: &[Row]) -> Result<Vec<Row>, AllocError>
     ensures numbers { IfOk result (λ copy. map (λ r. r.numbers.items) copy.items ≡ map (λ r. r.numbers.items) rows.now) }
     ensures befores { IfOk result (λ copy. map (λ r. r.previous) copy.items ≡ map (λ r. r.previous) rows.now) }

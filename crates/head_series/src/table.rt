@@ -1,36 +1,32 @@
-//! Series and the references that name them.
+//! The table of series.
 
-ghost use Rattle.std.specs.Prelude.{◌≡◌, ◌+◌, ◌<◌, ◌≤◌, ◌^◌, ◌++◌, ◌∷◌, [], ℕ, All, Some, None, Err, false, List, not, length, slice_get, IfOk, IfSome, OnOk, OnErr, IsOk};
-ghost use Rattle.wal_record.specs.Labels.{IsLabelSet, compare_labels, same_labels};
+ghost use Rattle.std.specs.Prelude.{◌≡◌, ◌+◌, ◌<◌, ◌≤◌, ◌++◌, ◌∷◌, [], ℕ, Some, None, Err, false, List, not, length, IfOk, OnOk, OnErr, IsOk};
+ghost use Rattle.wal_record.specs.Labels.{same_labels};
 ghost use Rattle.head_series.specs.Bindings.{Binding, IsTableOf};
-ghost use Rattle.head_series.specs.Room.{high_one, Fits, HasRoom, IsPlanOf, IsReserved, Uses};
-ghost use Rattle.head_series.specs.Rows.{AreDistinct};
-ghost use Rattle.head_series.specs.Table.{after, has_series, labels_at, low_end, slot_at, texts_with, with_greatest, with_series, AreAlike, IsFull, IsLeast, IsWith, Labels};
+ghost use Rattle.head_series.specs.ReferenceSlots.{low_end};
+ghost use Rattle.head_series.specs.Room.{high_one, HasRoom, Uses};
+ghost use Rattle.head_series.specs.Table.{has_series, slot_at, texts_with, with_greatest, with_series, AreAlike, IsFull, IsWith, Labels};
 ghost use Rattle.head_series.specs.Texts.{place, with_texts, texts_of};
 
-use crate::comparing::compare_numbers;
 use crate::hashing::hash_of;
 use crate::heap::Heap;
 use crate::interner::{InternFault, Interner};
-use crate::maps::copied;
-use crate::plan::Plan;
 use crate::ready::Ready;
 use crate::references::References;
-use crate::rows::{Row, copied_rows, is_named, last_numbers, last_with, note_last};
+use crate::rows::{Row, last_numbers, last_with, note_last};
 use indexmap::IndexMap;
 use std::alloc::{AllocError, Global};
-use std::cmp::Ordering;
 use std::error::Error;
 use std::fmt;
 use std::marker::Model;
-use wal_record::{LabelFault, LabelSet, Slot};
+use wal_record::{LabelSet, Slot};
 
-/// Why a reference was not bound.
+/// An error of a table: why a reference was not bound.
 #[derive(Clone, Copy, Debug, PartialEq, Eq)]
 pub enum BindFault {
-    /// The label set is new, and one series more, or its texts, would pass the limit.
+    /// The label set is new, and one more series, or its texts, would pass the limit.
     Full,
-    /// Memory ran out.
+    /// Out of memory.
     Memory,
 }
 
@@ -56,29 +52,29 @@ impl From<AllocError> for BindFault {
     }
 }
 
-/// The series that a reference was bound to.
+/// The series that a reference was bound to, as `bind` returns it.
 #[derive(Clone, Copy, Debug, PartialEq, Eq)]
 pub struct Bound {
     /// The slot of the series.
     pub slot: Slot,
-    /// Whether the label set was seen for the first time.
+    /// Whether the label set was new.
     pub created: bool,
 }
 
-/// Series, numbered by their slots in the order of first sight, and the references that name them. Each label text is kept
-/// once. Contracts see a `Table`: the series, the slot of each reference, the greatest reference, the texts and the limit;
-/// and, of which no call tells, how much more goes in without memory.
+/// Series, numbered by their slots in the order of first sight, and the references that name them. Each label text is kept once.
+/// Contracts see a `Table`: the series, the slots of references, the greatest reference, the texts and the limit; and how much more
+/// can be added without allocating, which no call shows.
 #[derive(Debug)]
 pub struct SeriesTable {
-    texts: Interner,
-    rows: Vec<Row>,
-    last_by_hash: IndexMap<u64, u32>,
-    references: References,
-    greatest: Option<u64>,
-    most: u32,
+    pub(crate) texts: Interner,
+    pub(crate) rows: Vec<Row>,
+    pub(crate) last_by_hash: IndexMap<u64, u32>,
+    pub(crate) references: References,
+    pub(crate) greatest: Option<u64>,
+    pub(crate) most: u32,
 }
 
-// Written out: where another function lets go of a table, its proof has one call, and not a copy of this.
+// Written out so that the proof of a function that drops a table has one call, and not a copy of this.
 impl Drop for SeriesTable {
     fn drop(self) {
         let SeriesTable {
@@ -108,7 +104,7 @@ impl Model for SeriesTable {
     ghost invariant = { λ t. IsSound t.texts t.most (map (λ r. r.numbers.items) t.rows.items) (map (λ r. r.previous) t.rows.items) t.last_by_hash.entries t.references.series };
 }
 
-// The greatest of these and the reference.
+// Returns the greater of the greatest reference so far and one more reference.
 fn with_reference(greatest: Option<u64>, reference: u64) -> Option<u64>
     ensures { result ≡ with_greatest greatest reference }
 {
@@ -125,7 +121,7 @@ fn with_reference(greatest: Option<u64>, reference: u64) -> Option<u64>
 }
 
 impl SeriesTable {
-    /// No series yet, and at most this many, with at most as many distinct label texts.
+    /// Returns a table of no series, for at most `most` series and at most as many distinct label texts. Allocates nothing.
     pub fn new(alloc: Global, most: u32) -> SeriesTable
         ensures series { result.series ≡ [] }
         ensures slots { (r : ℕ) → slot_at result r ≡ None }
@@ -144,150 +140,7 @@ impl SeriesTable {
         }
     }
 
-    /// How many series there are. By `distinct` and `ordered` a caller learns what holds of the series of every table.
-    pub fn len(&self) -> usize
-        ensures count { result ≡ length self.now.series }
-        ensures few { result ≤ self.now.most }
-        ensures fits { result < 2 ^ 32 }
-        ensures distinct { AreDistinct same_labels self.now.series }
-        ensures ordered { All IsLabelSet self.now.series }
-    {
-        // for the proof, which knows the invariant where a field is named
-        let _most = self.most;
-        self.rows.len()
-    }
-
-    /// The slot of the series that a reference was last bound to.
-    pub fn find(&self, reference: u64) -> Option<Slot>
-        ensures slot { result ≡ slot_at self.now reference }
-        ensures within { IfSome result (λ slot. slot < length self.now.series) }
-    {
-        match self.references.find(reference) {
-            Some(slot) => Some(Slot::new(slot)),
-            None => None,
-        }
-    }
-
-    /// The slot of a label set. No memory is taken.
-    pub fn find_labels(&self, labels: &LabelSet) -> Option<Slot>
-        ensures slot { result ≡ place (same_labels labels.now) self.now.series }
-        ensures within { IfSome result (λ slot. slot < length self.now.series) }
-    {
-        let mut next = last_with(&self.last_by_hash, hash_of(labels));
-        while next != 0 {
-            let slot = next - 1;
-            let row = &self.rows[slot as usize];
-            if is_named(&self.texts, &row.numbers, labels) {
-                return Some(Slot::new(slot));
-            }
-            next = row.previous;
-        }
-        None
-    }
-
-    /// How many labels a series has.
-    pub fn pairs(&self, slot: Slot) -> usize
-        requires { slot < length self.now.series }
-        ensures { result ≡ length (labels_at self.now slot) }
-    {
-        self.rows[slot.index()].numbers.len()
-    }
-
-    /// The name and the value at a place among the labels of a series, lent.
-    pub fn pair(&self, slot: Slot, i: usize) -> (&[u8], &[u8])
-        requires slot { slot < length self.now.series }
-        requires place { i < length (labels_at self.now slot) }
-        ensures { slice_get (labels_at self.now slot) i ≡ Some (record { name = result.0.now; value = result.1.now }) }
-    {
-        let number = self.rows[slot.index()].numbers[i];
-        (self.texts.bytes(number.0), self.texts.bytes(number.1))
-    }
-
-    // How many bytes the names and the values of a series come to.
-    fn texts_len(&self, slot: Slot) -> usize
-        requires { slot < length self.now.series }
-    {
-        let mut total: usize = 0;
-        for i in 0..self.pairs(slot) {
-            let (name, value) = self.pair(slot, i);
-            total = total.saturating_add(name.len()).saturating_add(value.len());
-        }
-        total
-    }
-
-    /// The label set of a series, in memory of its own.
-    pub fn labels(&self, slot: Slot) -> Result<LabelSet, AllocError>
-        requires { slot < length self.now.series }
-        ensures { IfOk result (λ labels. labels ≡ labels_at self.now slot) }
-    {
-        let alloc = *self.rows.allocator();
-        let mut labels = LabelSet::with_room(alloc, self.pairs(slot), self.texts_len(slot))?;
-        for i in 0..self.pairs(slot) {
-            let (name, value) = self.pair(slot, i);
-            match labels.push(name, value) {
-                Ok(()) => {}
-                Err(LabelFault::Memory) => return Err(AllocError),
-                Err(LabelFault::EmptyName) => unreachable!(),
-                Err(LabelFault::NotAscending) => unreachable!(),
-            }
-        }
-        Ok(labels)
-    }
-
-    /// The order of the label sets of two series: label by label, first the names and then the values, each by its bytes; a
-    /// label set that another one begins with comes before it. No memory is taken.
-    pub fn compare(&self, first: Slot, second: Slot) -> Ordering
-        requires first { first < length self.now.series }
-        requires second { second < length self.now.series }
-        ensures { result ≡ compare_labels (labels_at self.now first) (labels_at self.now second) }
-    {
-        let left = &self.rows[first.index()];
-        let right = &self.rows[second.index()];
-        compare_numbers(&self.texts, &left.numbers, &right.numbers)
-    }
-
-    /// The least reference that is bound to a series, or `None` if each of its references was bound anew to another.
-    pub fn reference(&self, slot: Slot) -> Option<u64>
-        requires { slot < length self.now.series }
-        ensures { IsLeast (λ r. slot_at self.now r ≡ Some slot) result }
-    {
-        self.references.least(slot.number())
-    }
-
-    /// One more than the greatest reference that was ever bound, and 1 if none was. `None` if that was 2^64 - 1. By `within` a caller
-    /// learns what holds of every table.
-    pub fn next_reference(&self) -> Option<u64>
-        ensures next { result ≡ after self.now.greatest }
-        ensures within { IfSome self.now.greatest (λ greatest. greatest < 2 ^ 64) }
-    {
-        match self.greatest {
-            None => Some(1),
-            Some(greatest) => {
-                if greatest < u64::MAX {
-                    Some(greatest + 1)
-                } else {
-                    None
-                }
-            }
-        }
-    }
-
-    /// A table that shows the same, in memory of its own. What either is bound to from then on, the other does not see.
-    pub fn copy(&self) -> Result<SeriesTable, AllocError>
-        ensures { IfOk result (λ copy. AreAlike self.now copy) }
-    {
-        let alloc = *self.rows.allocator();
-        Ok(SeriesTable {
-            texts: self.texts.copy()?,
-            rows: copied_rows(alloc, &self.rows)?,
-            references: self.references.copy()?,
-            last_by_hash: copied(&self.last_by_hash)?,
-            greatest: self.greatest,
-            most: self.most,
-        })
-    }
-
-    // Gives a series one more reference.
+    // Binds a reference to a series.
     fn point(&mut self, reference: u64, slot: Slot) -> Result<(), AllocError>
         requires { slot < length self.old.series }
         ensures series { self.new.series ≡ self.old.series }
@@ -309,7 +162,7 @@ impl SeriesTable {
         Ok(())
     }
 
-    // Gives a series one more reference, for whose slot there is room.
+    // Binds a reference, for whose slot there is room, to a series.
     fn point_ready(&mut self, reference: u64, slot: Slot, node: Box<Heap>)
         requires slot { slot < length self.old.series }
         requires place { reference < low_end → reference < self.old.room.places }
@@ -321,13 +174,13 @@ impl SeriesTable {
         ensures most { self.new.most ≡ self.old.most }
         ensures uses { (labels : Labels) → Uses self.old self.new (record { reference = reference; labels = labels }) }
     {
-        // for the proof, which knows the invariant where a field is named
+        // gives the proof the invariant, which it knows where a field is named
         let _most = self.most;
         self.references.point(reference, slot.number(), node);
         self.greatest = with_reference(self.greatest, reference);
     }
 
-    // Adds a series with a reference.
+    // Adds a series, and binds a reference to it.
     fn create(&mut self, reference: u64, labels: &LabelSet) -> Result<Slot, BindFault>
         requires new { has_series self.old.series labels.now ≡ false }
         ensures series { OnOk result (self.new.series ≡ self.old.series ++ labels.now ∷ []) }
@@ -364,7 +217,7 @@ impl SeriesTable {
         Ok(Slot::new(slot))
     }
 
-    // Adds a series with a reference, out of what was made beforehand.
+    // Adds a series with what was made for it beforehand, and binds a reference to it.
     fn create_ready(&mut self, reference: u64, labels: &LabelSet, ready: Ready) -> Slot
         requires new { has_series self.old.series labels.now ≡ false }
         requires ready { ready ≡ labels.now }
@@ -377,7 +230,7 @@ impl SeriesTable {
         ensures most { self.new.most ≡ self.old.most }
         ensures uses { Uses self.old self.new (record { reference = reference; labels = labels.now }) }
     {
-        // for the proof, which knows the invariant where a field is named
+        // gives the proof the invariant, which it knows where a field is named
         let _most = self.most;
         let number = self.rows.len() as u32;
         let numbers = self.texts.put_all(ready);
@@ -390,9 +243,10 @@ impl SeriesTable {
         Slot::new(number)
     }
 
-    /// Binds a reference to a label set from here on, whatever it was bound to before. `Full` just where the label set is new
-    /// and one series more, or its texts, would pass the limit; `Memory` where memory ran out. The table shows the same as
-    /// before on both.
+    /// Binds a reference to a label set from here on, whatever it was bound to before.
+    ///
+    /// Returns `Full` only if the label set is new and one more series, or its texts, would pass the limit, and `Memory` if out of
+    /// memory. The table's content is then unchanged.
     pub fn bind(&mut self, reference: u64, labels: &LabelSet) -> Result<Bound, BindFault>
         ensures series { OnOk result (self.new.series ≡ with_series self.old.series labels.now) }
         ensures slot { IfOk result (λ bound. place (same_labels labels.now) self.new.series ≡ Some bound.slot) }
@@ -404,12 +258,12 @@ impl SeriesTable {
         ensures most { self.new.most ≡ self.old.most }
         ensures full { result ≡ Err BindFault.Full → IsFull self.old labels.now }
         ensures room { IsOk result → IsFull self.old labels.now → ⊥ }
-        // At the limit of series a new one is refused before memory is asked for.
+        // At the limit of series a new one is refused before anything is allocated.
         ensures limit { has_series self.old.series labels.now ≡ false → length self.old.series ≡ self.old.most → result ≡ Err BindFault.Full }
         ensures kept { OnErr result (AreAlike self.old self.new) }
-        // A reference that is bound to what it was bound to asks for no memory.
+        // Binding a reference to the series that it is bound to allocates nothing.
         ensures again { (slot : ℕ) → slot_at self.old reference ≡ Some slot → place (same_labels labels.now) self.old.series ≡ Some slot → IsOk result }
-        // What the bindings so far and this one say.
+        // A table of some bindings becomes one of these and this binding.
         ensures table { (bs : List Binding) → IsTableOf bs self.old → OnOk result (IsTableOf (bs ++ (record { reference = reference; labels = labels.now }) ∷ []) self.new) }
     {
         match self.find_labels(labels) {
@@ -433,99 +287,7 @@ impl SeriesTable {
         }
     }
 
-    /// A plan of no bindings yet, for bindings that are to be made in this table.
-    pub fn plan(&self) -> Plan
-        ensures { IsReserved self.now [] result }
-    {
-        // for the proof, which learns by them that neither passes the limit
-        let _series = self.len();
-        let _texts = self.texts.len();
-        Plan::new(*self.rows.allocator())
-    }
-
-    /// Makes room for one binding more, after those of a plan, and notes it there; `bind_ready` takes what is given back. `Full`
-    /// just where the bindings of the plan and this one pass the limit of series or of texts, `Memory` where memory ran out;
-    /// after either the plan says nothing and is to be dropped. Whatever the answer, and whatever is dropped, the table shows
-    /// the same as before.
-    pub fn reserve(
-        &mut self,
-        plan: &mut Plan,
-        reference: u64,
-        labels: &LabelSet,
-    ) -> Result<Ready, BindFault>
-        ensures kept { AreAlike self.old self.new }
-        ensures ready { IfOk result (λ ready. ready ≡ labels.now) }
-        ensures room { (bs : List Binding) → IsReserved self.old bs plan.old → OnOk result (IsReserved self.new (bs ++ (record { reference = reference; labels = labels.now }) ∷ []) plan.new) }
-        ensures full { (bs : List Binding) → IsReserved self.old bs plan.old → result ≡ Err BindFault.Full → Fits self.old.most self.old.series self.old.texts (bs ++ (record { reference = reference; labels = labels.now }) ∷ []) → ⊥ }
-        // At the limit of series a new one is refused before memory is asked for.
-        ensures limit { has_series self.old.series labels.now ≡ false → has_series plan.old.series labels.now ≡ false → self.old.most ≤ length self.old.series + length plan.old.series → result ≡ Err BindFault.Full }
-    {
-        if plan.is_at_limit(self, self.most, labels) {
-            return Err(BindFault::Full);
-        }
-        let ready = Ready::new(*self.rows.allocator(), labels)?;
-        self.note(plan, labels)?;
-        plan.count(reference, labels)?;
-        self.grow(plan, reference)?;
-        Ok(ready)
-    }
-
-    // Notes in a plan what a label set makes new.
-    fn note(&self, plan: &mut Plan, labels: &LabelSet) -> Result<(), BindFault>
-        ensures plan { (bs : List Binding) (r : ℕ) → IsPlanOf self.now bs plan.old → OnOk result (IsPlanOf self.now (bs ++ (record { reference = r; labels = labels.now }) ∷ []) plan.new) }
-        ensures full { (bs : List Binding) (r : ℕ) → IsPlanOf self.now bs plan.old → result ≡ Err BindFault.Full → Fits self.now.most self.now.series self.now.texts (bs ++ (record { reference = r; labels = labels.now }) ∷ []) → ⊥ }
-        ensures bindings { plan.new.bindings ≡ plan.old.bindings }
-        ensures texts_most { plan.new.texts_most ≡ plan.old.texts_most }
-        ensures high { plan.new.high ≡ plan.old.high }
-    {
-        match self.find_labels(labels) {
-            Some(_) => return Ok(()),
-            None => {}
-        }
-        match plan.series.bind(0, labels) {
-            Ok(bound) => {
-                if !bound.created {
-                    return Ok(());
-                }
-            }
-            Err(_) => return Err(BindFault::Memory),
-        }
-        match self.texts.note(&mut plan.texts, labels) {
-            Ok(()) => {}
-            Err(_) => return Err(BindFault::Memory),
-        }
-        let series = self.len() as u64 + plan.series.len() as u64;
-        let texts = self.texts.len() as u64 + plan.texts.len() as u64;
-        if series > self.most as u64 {
-            return Err(BindFault::Full);
-        }
-        if texts > self.most as u64 {
-            return Err(BindFault::Full);
-        }
-        Ok(())
-    }
-
-    // Makes room for as much as a plan counts, and for the slot of a reference.
-    fn grow(&mut self, plan: &Plan, reference: u64) -> Result<(), AllocError>
-        ensures kept { AreAlike self.old self.new }
-        ensures rows { OnOk result (plan.now.bindings ≤ self.new.room.rows) }
-        ensures lower_bounds { OnOk result (plan.now.bindings ≤ self.new.room.lower_bounds) }
-        ensures last_by_hash { OnOk result (plan.now.bindings ≤ self.new.room.last_by_hash) }
-        ensures texts { OnOk result (plan.now.texts_most ≤ self.new.room.texts) }
-        ensures places { self.old.room.places ≤ self.new.room.places }
-        ensures place { OnOk result (reference < low_end → reference < self.new.room.places) }
-        ensures high { OnOk result (plan.now.high ≤ self.new.room.high) }
-    {
-        self.rows.reserve(plan.bindings)?;
-        self.references.reserve_series(plan.bindings)?;
-        self.last_by_hash.reserve(plan.bindings)?;
-        self.texts.reserve(plan.texts_most)?;
-        self.references.make_room(reference, plan.high)?;
-        Ok(())
-    }
-
-    /// Binds a reference to a label set from here on, as `bind` does, out of what `reserve` gave. It can't fail, and no memory
-    /// is taken.
+    /// Binds a reference to a label set from here on, as `bind` does, with what `reserve` returned. Allocates nothing, and never fails.
     pub fn bind_ready(&mut self, reference: u64, labels: &LabelSet, ready: Ready) -> Bound
         requires ready { ready ≡ labels.now }
         requires room { HasRoom self.old ((record { reference = reference; labels = labels.now }) ∷ []) }
@@ -537,9 +299,9 @@ impl SeriesTable {
         ensures greatest { self.new.greatest ≡ with_greatest self.old.greatest reference }
         ensures texts { self.new.texts ≡ texts_with self.old labels.now }
         ensures most { self.new.most ≡ self.old.most }
-        // What there was room for besides, there still is.
+        // The room for the bindings after this one is kept.
         ensures left { (bs : List Binding) → HasRoom self.old ((record { reference = reference; labels = labels.now }) ∷ bs) → HasRoom self.new bs }
-        // What the bindings so far and this one say.
+        // A table of some bindings becomes one of these and this binding.
         ensures table { (bs : List Binding) → IsTableOf bs self.old → IsTableOf (bs ++ (record { reference = reference; labels = labels.now }) ∷ []) self.new }
     {
         match self.find_labels(labels) {
