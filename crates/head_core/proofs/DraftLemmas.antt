@@ -22,6 +22,7 @@ use Rattle.head_series.specs.Bindings.{Binding, series_of}
 use Rattle.head_series.specs.Room as table_room
 use Rattle.head_series.proofs.Places.{place_some, place_within}
 use Rattle.head_series.proofs.PlanLemmas.{front_same, back_same, series_after-push}
+use Rattle.head_postings.specs.Postings.{Lists}
 use Rattle.head_postings.specs.Room as postings_room
 use Rattle.head_core.specs.Owners.{binding, bindings}
 use Rattle.head_core.specs.Content.{Content, AreAlike, AreHistoriesOf, IsContentOf}
@@ -280,6 +281,18 @@ fits_kept h k es a f =
     subst (λ n. table_room.Fits n k.content.table.series k.content.table.texts (bindings es)) (sym a.most)
     (subst (λ (ss : List Labels). table_room.Fits h.content.table.most ss k.content.table.texts (bindings es)) (sym a.content.series)
     (subst (λ (ts : List Text). table_room.Fits h.content.table.most h.content.table.series ts (bindings es)) (sym a.content.texts) f))
+
+-- and the other way round
+pub kept_fits : (h k : HeadValue) (es : List Entry) → IsKept h k → FitsIn k.content es → FitsIn h.content es
+kept_fits h k es a f =
+    subst (λ n. table_room.Fits n h.content.table.series h.content.table.texts (bindings es)) a.most
+    (subst (λ (ss : List Labels). table_room.Fits k.content.table.most ss h.content.table.texts (bindings es)) a.content.series
+    (subst (λ (ts : List Text). table_room.Fits k.content.table.most k.content.table.series ts (bindings es)) a.content.texts f))
+
+-- The draft of no records is one for the head h, of which v is what its parts show.
+pub draft_start : {h v : HeadValue} {t : Table} {p : Lists} {d : Drafted} → v ≡ h → t ≡ v.content.table → p ≡ v.content.postings → length v.room.spares ≡ length v.content.table.series
+    → ((k : HeadValue) → k.content.table ≡ t → k.content.postings ≡ p → length k.room.spares ≡ length t.series → IsDraft k d []) → IsDraft h d []
+draft_start {h} {v} {t} {p} {d} is table postings own made = subst (λ (k : HeadValue). IsDraft k d []) is (made v (sym table) (sym postings) (own ∙ ap (λ (u : Table). length u.series) (sym table)))
 
 -- more columns, and each takes as many items as before
 pub spare_longer : (xs ys : List ℕ) (s : ℕ) → spare_at xs s ≤ spare_at (xs ++ ys) s

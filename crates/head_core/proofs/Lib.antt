@@ -20,4 +20,5 @@ mod AppliedWorked
 pub mod CountRoom
 pub mod DraftLemmas
 pub mod Idle
+pub mod OnlyCounted
 pub mod Numbered

@@ -11,10 +11,10 @@ use Rattle.head_series.specs.Room as table_room
 use Rattle.head_postings.specs.Room as postings_room
 use Rattle.head_core.specs.declared.counts.Counts.{Counts}
 use Rattle.head_core.specs.Owners.{bindings}
-use Rattle.head_core.specs.Counts.{Fate, count_of_class}
+use Rattle.head_core.specs.Counts.{Fate, bound, accepted, stale, unknown, hides, empty_stone, unknown_stone, count_of_class}
 use Rattle.head_core.specs.Content.{Content, count_limit}
 use Rattle.head_core.specs.Heads.{ColumnRoom, HeadValue}
-use Rattle.head_core.specs.Steps.{count_of_fate, found, told_item}
+use Rattle.head_core.specs.Steps.{count_of_fate, found, told, told_item}
 
 -- the label sets that the entries bind, in order, each as often as it is bound
 abbrev pub sets_of : List Entry → List Labels
@@ -97,3 +97,17 @@ pub record PutUses (h k : HeadValue) (r : ℕ) : Type 0 where
 -- The entries bind nothing, and no item among them comes to a series.
 abbrev pub IsIdle : Table → List Entry → Type 0
 IsIdle t es = (bindings es ≡ []) × (targets t.series (slot_at t) es ≡ [])
+
+-- What becomes of an entry changes a count alone: it is an unknown item, a stale sample or an empty deletion.
+abbrev pub IsOnlyCounted : Fate → Type 0
+IsOnlyCounted bound = ⊥
+IsOnlyCounted accepted = ⊥
+IsOnlyCounted stale = Unit {0}
+IsOnlyCounted unknown = Unit {0}
+IsOnlyCounted hides = ⊥
+IsOnlyCounted empty_stone = Unit {0}
+IsOnlyCounted unknown_stone = Unit {0}
+
+-- Each entry is only counted by a head of this content.
+abbrev pub AreOnlyCounted : Content → List Entry → Type 0
+AreOnlyCounted c es = All (λ e. IsOnlyCounted (told c.table c.histories e)) es
