@@ -1,5 +1,5 @@
 -- What a head cannot hold of what was told.
-use Rattle.std.proofs.Common.{◌≡◌, ℕ, zero, suc, ◌+◌, ◌<◌, false, true≢false, List, [], ◌∷◌, ◌++◌, All, IsPermutation, Some, None, ap, ap₂, sym, subst, ◌∙◌, refl, arith, cond, length, get_or, filter, flat_map, map, slice_get, unwrap_or}
+use Rattle.std.proofs.Common.{◌≡◌, ℕ, zero, suc, ◌+◌, ◌^◌, ◌<◌, ◌≤◌, false, true≢false, List, [], ◌∷◌, ◌++◌, All, IsPermutation, MatchOption, Option, Some, None, ap, ap₂, sym, subst, ◌∙◌, refl, arith, cond, length, get_or, filter, flat_map, map, slice_get, unwrap_or}
 use Rattle.std.specs.List.{enumerate_from}
 use Rattle.std.proofs.lemmas.List.{get_or-map, length-map}
 use Rattle.std.proofs.lemmas.List.Elements.{All-append, All-cons, All-head, All-map, All-nil, All-tail}
@@ -15,7 +15,8 @@ use Rattle.head_core.specs.Heads.{history_at}
 use Rattle.head_live.specs.declared.placed.PlacedSample.{PlacedSample}
 use Rattle.head_live.specs.declared.verdict.Verdict.{Verdict}
 use Rattle.head_live.specs.declared.verdict.Verdict.TheVariants.{Accepted, Stale}
-use Rattle.head_live.specs.Closing.{Agrees, all_told, new_rows, new_rows_at, row_of_sample}
+use Rattle.head_live.specs.Closing.{Agrees, Closes, all_told, new_rows, new_rows_at, row_of_sample, shares}
+use Rattle.head_live.specs.Moments.{LiveState, Moment}
 use Rattle.head_live.specs.Placing.{AreInSeries, IsPossible, labels_at, row_at}
 use Rattle.head_live.specs.Rows.{Row}
 use Rattle.head_live.specs.Told.{Answer, AppenderState, accepted_rows, is_accepted}
@@ -104,3 +105,11 @@ pub same_placed : (c : Content) (xs ys : List PlacedSample) → AreDistinct same
 same_placed c xs ys distinct h k same =
     subst (λ (us : List PlacedSample). IsPermutation us ys) (placed_again c distinct xs h)
     (subst (IsPermutation (map (place_of c) (map (row_at c) xs))) (placed_again c distinct ys k) (IsPermutation-map (place_of c) (map (row_at c) xs) (map (row_at c) ys) same))
+
+-- ---- the total
+
+-- where a run can be closed, the total is known, and is the growth of the count
+pub closable_total : (opening : Moment) (live : LiveState) (accepted growth book : ℕ) (total : Option ℕ) (appenders : List AppenderState) → Closes opening live accepted appenders
+    → MatchOption total (2 ^ 64 ≤ book) (λ t. t ≡ book) → shares appenders ≡ book → live.now.content.counts.accepted ≡ opening.content.counts.accepted + growth → growth < 2 ^ 64 → total ≡ Some growth
+closable_total opening live accepted growth book None appenders closes past sum count few = absurd (omega (arith, closes.sum, closes.growth, past, sum, count, few))
+closable_total opening live accepted growth book (Some total) appenders closes same sum count few = ap Some (omega (arith, closes.sum, closes.growth, same, sum, count))

@@ -1,4 +1,4 @@
-use Rattle.std.proofs.Common.{◌≡◌, ◌+◌, ◌∙◌, ◌++◌, All, AllPairs, List, ap, map, subst, sym, take}
+use Rattle.std.proofs.Common.{◌≡◌, ◌+◌, ◌∙◌, ◌++◌, All, AllPairs, List, ap, ap₂, map, subst, sym, take}
 use Rattle.std.proofs.lemmas.List.{take_all}
 use Rattle.std.proofs.lemmas.List.Elements.{All-append}
 use Rattle.std.proofs.lemmas.List.Sorted.{IsPermutation-map}
@@ -6,6 +6,7 @@ use Rattle.std.specs.List.Sorted.{IsPermutation}
 use Rattle.head_live.specs.declared.placed.PlacedSample.{PlacedSample}
 use Rattle.head_live.specs.Closing.{IsStaleIn, all_told, new_rows}
 use Rattle.head_live.specs.Placing.{AreInSeries, IsBefore, IsPossible, row_at}
+use Rattle.head_live.specs.Rows.{Row}
 use Rattle.head_live.specs.Told.{Answer, AppenderState, accepted_rows, answer_of}
 use Rattle.head_live.proofs.CloseLemmas.{accepted_rows-append, told_more_by}
 use Rattle.head_live.proofs.DifferLemmas.{possible, same_placed, told_at}
@@ -18,11 +19,11 @@ loop-appender-preserved g c =
     let before : List Answer = all_told (take i c.args.appenders.now) in
     let told : List Answer = c.appender-item.result.told in
     let placed = c.in_ok-place_rows.ensures in
-    let more : all_told (take (i + 1) c.args.appenders.now) ≡ before ++ told = told_more_by c.args.appenders.now i c.appender-item.result c.loop-appender-test.true c.appender-item.is in record {
-      rows = placed.rows c.if-not-branch.false
-          ∙ (ap (λ r. r ++ accepted_rows (map answer_of c.told.result.now)) c.loop-appender.invariant.rows
-          ∙ (ap (λ t. accepted_rows before ++ accepted_rows t) c.told.ensures
-          ∙ (sym (accepted_rows-append before told) ∙ ap accepted_rows (sym more))));
+    let more : all_told (take (i + 1) c.args.appenders.now) ≡ before ++ told = told_more_by c.args.appenders.now i c.appender-item.result c.loop-appender-test.true c.appender-item.is in
+    let start : List Row = map (row_at now) c.loop-appender.accepted.items in
+    let added : map (row_at now) c.place_rows.new.accepted.items ≡ start ++ accepted_rows (map answer_of c.told.result.now) = placed.rows c.if-not-branch.false in
+    let both : start ++ accepted_rows (map answer_of c.told.result.now) ≡ accepted_rows before ++ accepted_rows told = ap₂ ◌++◌ c.loop-appender.invariant.rows (ap accepted_rows c.told.ensures) in record {
+      rows = added ∙ (both ∙ (sym (accepted_rows-append before told) ∙ ap accepted_rows (sym more)));
       stale = subst (All (IsStaleIn now)) (sym more)
           (All-append (IsStaleIn now) before told c.loop-appender.invariant.stale (subst (All (IsStaleIn now)) c.told.ensures (placed.stale c.if-not-branch.false)));
       slots = placed.slots c.loop-appender.invariant.slots;
