@@ -17,7 +17,7 @@ pub trait Job {
     /// What is known of a job that was finished: of the job as it was, and as it is then.
     ghost done: { Self → Self → Type 0 };
 
-    /// Passes the gate that stands before such jobs. Each worker calls it once, before its job.
+    /// Calls the gate for such jobs. Each worker calls this once, before its job.
     fn enter<G: Gate>(gate: &G, worker: usize, turn: u64);
 
     /// Finishes the job.
@@ -73,7 +73,7 @@ impl Starts {
     }
 }
 
-/// Workers, each of which finishes a job in a thread of its own: what lets them start, and the gate that they pass.
+/// Workers, each of which finishes a job in its own thread: the runtime that starts them, and the gate that they call.
 #[derive(Drop)]
 pub struct Crew<'a, R, G> {
     rt: &'a R,
@@ -82,12 +82,12 @@ pub struct Crew<'a, R, G> {
 }
 
 impl<'a, R: Threads + Wait + Sync, G: Gate + Sync> Crew<'a, R, G> {
-    /// Workers whose threads are started by `rt`, where `starts` lets them, and pass this gate.
+    /// Returns a crew whose threads are started by `rt`, as far as `starts` lets them, and call this gate.
     pub fn new(rt: &'a R, gate: &'a G, starts: Starts) -> Crew<'a, R, G> {
         Crew { rt, gate, starts }
     }
 
-    /// The same workers, with no gate before their jobs.
+    /// Returns the same crew, with a gate that does nothing.
     pub fn without_gate(&self) -> Crew<'a, R, NoGate> {
         Crew {
             rt: self.rt,
@@ -198,7 +198,7 @@ fn finish_from<J: Job + Send + Drop, G: Gate + Sync, R: Threads + Wait + Sync>(
     )
 }
 
-/// Finishes the jobs as [`Crew::finish`] does, with no gate before them, and the first of them in the calling thread.
+/// Finishes the jobs as [`Crew::finish`] does, but calls no gate, and finishes the first job in the calling thread.
 pub(crate) fn finish_here<J: Job + Send + Drop, R: Threads + Wait + Sync>(
     rt: &R,
     starts: Starts,

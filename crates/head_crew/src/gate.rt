@@ -1,16 +1,16 @@
-//! Where workers can be seen, and held up.
+//! Gates: places in a worker's way where a test or a progress line watches.
 
-/// Called by the workers of a replay. A gate changes nothing of what is replayed: it is there so that a test can see
-/// which workers are at work, and hold them up.
+/// A place in a worker's way where a test or a progress line watches. Workers call it; a test may hold them up there. It changes nothing
+/// of what is replayed.
 pub trait Gate {
-    /// Each worker calls it once in a round, before its first piece of the log. Rounds are counted from 0.
+    /// Called by each worker once in a round, before its first piece of the log. Rounds are counted from 0.
     fn pass(&self, worker: usize, turn: u64);
 
-    /// Each worker calls it once in a round, before it runs its part of the items that the round's records brought.
+    /// Called by each worker once in a round, before it runs its part of the round's items.
     fn part(&self, worker: usize, turn: u64);
 }
 
-/// The gate that holds nobody up.
+/// A gate that does nothing.
 #[derive(Clone, Copy, Debug)]
 pub struct NoGate;
 
