@@ -1,7 +1,7 @@
-//! Gates, by which tests observe and delay workers.
+//! Gates: places in a worker's way where a test or a progress line watches.
 
-/// Calls that the workers of a replay make. A gate changes nothing of what is replayed; by it a test observes which workers are
-/// running, and delays them.
+/// A place in a worker's way where a test or a progress line watches. Workers call it, and a test may delay them there. A gate changes
+/// nothing of what is replayed.
 pub trait Gate {
     /// Called by each worker once a round, before its first run of pages. Rounds are counted from 0.
     fn pass(&self, worker: usize, turn: u64);

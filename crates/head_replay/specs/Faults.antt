@@ -1,4 +1,4 @@
--- What a refusal of a part is to the whole.
+-- Conversions of faults.
 use Rattle.head_core.specs.declared.fault.HeadFault.{HeadFault}
 use Rattle.head_core.specs.declared.fault.HeadFault.TheVariants as head
 use Rattle.head_crew.specs.declared.crew.CrewFault.{CrewFault}

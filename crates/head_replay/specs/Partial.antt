@@ -3,7 +3,7 @@ use Rattle.std.specs.Prelude.{ℕ, ◌+◌, ◌%◌, ◌&&◌, nat_le, nat_lt, L
 use Rattle.std.specs.List.{filter}
 use Rattle.head_postings.specs.Postings.{Labels}
 
--- those that belong to a worker from the first up to the end, without the end: a slot belongs to the worker that is its number modulo the number of workers
+-- the slots of the workers from `first` to `end`, without `end`: slot s belongs to worker s modulo `workers`
 abbrev pub belonging : ℕ → ℕ → ℕ → List (ℕ × Labels) → List (ℕ × Labels)
 belonging workers first end sets = filter (λ s. nat_le first (s.0 % workers) && nat_lt (s.0 % workers) end) sets
 

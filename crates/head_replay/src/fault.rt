@@ -1,4 +1,4 @@
-//! Why a log was not replayed.
+//! Errors of a replay.
 
 use head_core::HeadFault;
 use head_crew::CrewFault;
@@ -6,18 +6,18 @@ use std::alloc::AllocError;
 use std::error::Error;
 use std::fmt;
 
-/// Why a log was not replayed. Nothing is left behind.
+/// An error of a replay. No thread is left running.
 #[derive(Clone, Copy, Debug, PartialEq, Eq)]
 pub enum ReplayFault {
     /// A replay has at least one worker.
     NoWorkers,
     /// A replay has at most 64 workers.
     TooManyWorkers,
-    /// The log has more series, label texts or entries than a head may have.
+    /// Too many series, label texts or entries for a head.
     Full,
-    /// Memory ran out.
+    /// Out of memory.
     Memory,
-    /// A thread could not start. Those that did were joined.
+    /// A thread could not be started. Those that were started were joined.
     Workers,
 }
 
@@ -35,7 +35,7 @@ impl fmt::Display for ReplayFault {
 
 impl Error for ReplayFault {}
 
-/// Why so many workers as there may be came to no end.
+/// An error of a replay with a valid number of workers.
 #[derive(Clone, Copy, Debug, PartialEq, Eq)]
 pub(crate) enum EngineFault {
     Full,
@@ -95,7 +95,7 @@ impl From<HeadFault> for EngineFault {
     fn from(fault: HeadFault) -> EngineFault {
         match fault {
             HeadFault::Full => EngineFault::Full,
-            // a resolver that was just made has not failed
+            // a new resolver has not failed
             HeadFault::Memory | HeadFault::Failed => EngineFault::Memory,
         }
     }

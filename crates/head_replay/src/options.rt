@@ -1,11 +1,11 @@
-//! How a log is replayed.
+//! Options of a replay.
 
-/// How a log is replayed. What is replayed does not depend on it.
+/// Options of a replay. Its result does not depend on them.
 #[derive(Clone, Copy, Debug, PartialEq, Eq)]
 pub struct Options {
-    /// How many workers there are, 1 to 64.
+    /// The number of workers, 1 to 64.
     pub workers: usize,
-    /// How many pages are taken in a round: no more are held decoded at a time, and one record that goes on. 0 is read as 1, and more than
-    /// 2^32 as 2^32.
+    /// The number of pages that are taken in a round. At most these, and one unfinished record, are held decoded at a time. 0 counts as 1,
+    /// and more than 2^32 as 2^32.
     pub round_pages: usize,
 }

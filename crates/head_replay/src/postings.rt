@@ -1,4 +1,4 @@
-//! The series of each label, listed by workers.
+//! Postings, made by workers.
 
 ghost use Rattle.std.specs.Prelude.{◌≡◌, ◌+◌, ◌<◌, ◌≤◌, ℕ, List, IfOk, vec_len};
 ghost use Rattle.head_postings.specs.Postings.{IsPostingsOf, Labels};
@@ -12,7 +12,7 @@ use std::alloc::{AllocError, Global};
 use std::sync::Wait;
 use std::thread::Threads;
 
-// The postings of a worker's slots: those with its number modulo the number of workers.
+// Returns the postings of a worker's slots, which are its number modulo the number of workers.
 fn partial(
     alloc: Global,
     worker: usize,
@@ -33,7 +33,7 @@ fn partial(
     Ok(postings)
 }
 
-/// The postings of a worker's slots, once it has listed them.
+/// A worker's job: to list the postings of its slots.
 #[derive(Drop)]
 pub(crate) struct Listing<'t> {
     alloc: Global,
@@ -48,7 +48,7 @@ pub(crate) struct Listing<'t> {
 impl<'t> Job for Listing<'t> {
     ghost done = { λ old new. IsPostingsOf (belonging old.workers old.worker (old.worker + 1) (by_slot old.table.now.series)) new.postings };
 
-    // no gate stands before these
+    // these jobs call no gate
     fn enter<G: Gate>(_gate: &G, _worker: usize, _turn: u64) {}
 
     fn finish(&mut self) -> Result<(), AllocError> {
@@ -57,7 +57,7 @@ impl<'t> Job for Listing<'t> {
     }
 }
 
-// A job for each worker, in order.
+// Returns a job for each worker, in order.
 fn listings<'t>(
     alloc: Global,
     workers: usize,
@@ -81,7 +81,7 @@ fn listings<'t>(
     Ok(jobs)
 }
 
-// The postings of the one job, or none.
+// Returns the postings of the one job, or those of no series.
 fn only(alloc: Global, mut jobs: Vec<Listing<'_>>) -> Postings
     requires one { vec_len jobs ≤ 1 }
     ensures postings { (workers first : ℕ) (series : List Labels) → AreNumbered (λ worker job. IsPostingsOf (belonging workers worker (worker + 1) (by_slot series)) job.postings) first jobs.entry.items → IsPostingsOf (belonging workers first (first + vec_len jobs.entry) (by_slot series)) result }
@@ -92,7 +92,7 @@ fn only(alloc: Global, mut jobs: Vec<Listing<'_>>) -> Postings
     }
 }
 
-// The postings of all jobs. They are merged by halving, so that none is walked more often than the number of jobs has bits.
+// Returns the postings of all jobs. Merges them by halves, so each is copied at most as often as the number of jobs has bits.
 fn merge_all(alloc: Global, mut jobs: Vec<Listing<'_>>) -> Result<Postings, AllocError>
     ensures postings { (workers first : ℕ) (series : List Labels) → AreNumbered (λ worker job. IsPostingsOf (belonging workers worker (worker + 1) (by_slot series)) job.postings) first jobs.entry.items → IfOk result (λ postings. IsPostingsOf (belonging workers first (first + vec_len jobs.entry) (by_slot series)) postings) }
 {
@@ -106,8 +106,8 @@ fn merge_all(alloc: Global, mut jobs: Vec<Listing<'_>>) -> Result<Postings, Allo
     low.merge(high)
 }
 
-/// The postings of a table's series, by a crew of the caller's own: each of so many workers lists its own series, and what they listed is
-/// merged. No gate stands before it. `Workers` where a thread can't start.
+/// Returns the postings of a table's series, made by a crew that is passed in: each worker lists its own series, and the lists are merged.
+/// Calls no gate. Returns `Workers` if a thread could not be started.
 pub fn postings_by<R: Threads + Wait + Sync, G: Gate + Sync>(
     crew: &Crew<'_, R, G>,
     alloc: Global,

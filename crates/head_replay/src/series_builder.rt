@@ -1,4 +1,4 @@
-//! What is kept of a series while a log is replayed.
+//! Builders of series for a replay.
 
 ghost use Rattle.std.specs.Prelude.{◌≡◌, List};
 ghost use Rattle.wal_record.specs.declared.record.WalRecord.{WalRecord as LogRecord};
@@ -12,16 +12,16 @@ use head_core::items_make_series;
 use head_deal::Builder;
 use std::alloc::Global;
 
-/// What is kept of a series: all of it for a head, its greatest time for a tally.
+/// The builder of a series: a whole column for a head, or its greatest time for a tally.
 pub(crate) trait SeriesBuilder: Builder<Item = Item, Outcome = Outcome> {
-    /// That of a new series, as far as what it shows goes.
+    /// A builder with the value of a new series.
     ghost blank: { Self };
 
-    /// That of a new series.
+    /// Returns the builder of a new series. Allocates nothing.
     fn of_new_series(alloc: Global) -> Self
         ensures { Self.value result ≡ Self.value blank };
 
-    /// A law, for the proofs: what becomes of a log's items is what the log counts. Nothing is done.
+    /// Does nothing. Its clause is a law: the outcomes of a log's items are those that the log's counts say.
     fn counts_of_outcomes()
         ensures { (rs : List LogRecord) → AreCountsOfOutcomes (outcomes_after Self.after Self.outcome (new_slots (Self.value blank) (entries_of rs)) (resolved (entries_of rs))) (counts_of rs) };
 }

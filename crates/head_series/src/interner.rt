@@ -158,7 +158,7 @@ impl Interner {
         (number as usize) < self.len() && self.bytes(number) == text
     }
 
-    // Returns the number of a text, as `number` does. Compares it first with the text of the number `near`.
+    // Returns the number of a text, as `number` does. Compares it first with the text of the number `guess`.
     fn number_near(&mut self, text: &[u8], guess: u32) -> Result<u32, InternFault>
         ensures texts { OnOk result (self.new.texts ≡ with_text self.old.texts text.now) }
         ensures number { IfOk result (λ n. place (same_text text.now) self.new.texts ≡ Some n) }

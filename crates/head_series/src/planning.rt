@@ -4,8 +4,7 @@ ghost use Rattle.std.specs.Prelude.{◌≡◌, ◌+◌, ◌<◌, ◌≤◌, ◌+
 ghost use Rattle.head_series.specs.Bindings.{Binding};
 ghost use Rattle.head_series.specs.ReferenceSlots.{low_end};
 ghost use Rattle.head_series.specs.Room.{Fits, IsPlanOf, IsReserved};
-ghost use Rattle.head_series.specs.Table.{after, has_series, AreAlike};
-ghost use Rattle.head_series.specs.Texts.{place};
+ghost use Rattle.head_series.specs.Table.{has_series, AreAlike};
 
 use crate::plan::Plan;
 use crate::ready::Ready;

@@ -57,7 +57,7 @@ pub(crate) fn last_with(last_by_hash: &IndexMap<u64, u32>, hash: u64) -> u32
     }
 }
 
-// Sets the last series with a hash; `after` is its slot plus 1.
+// Sets the last series with a hash; `last` is its slot plus 1.
 pub(crate) fn note_last(last_by_hash: &mut IndexMap<u64, u32>, hash: u64, last: u32)
     requires { 0 < spare last_by_hash.old }
     ensures room { spare last_by_hash.old ≤ spare last_by_hash.new + 1 }
