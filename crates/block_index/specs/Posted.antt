@@ -1,4 +1,4 @@
--- The lists of postings by the labels of rows, in their order.
+-- Postings from the sorted labels of rows.
 use Rattle.std.specs.Prelude.{ℕ, List, map, get_or}
 use Rattle.wal_record.specs.declared.labels.Label.{Label}
 use Rattle.wal_record.specs.Labels.{compare_label}
@@ -6,10 +6,11 @@ use Rattle.block_index.specs.Groups.{keys, members}
 use Rattle.block_index.specs.Index.{postings_body}
 use Rattle.block_index.specs.Layout.{Text, framed}
 
+-- the distinct labels, ascending
 abbrev pub labels_in : List (Label × ℕ) → List Label
 labels_in ls = keys (λ (l : Label × ℕ). l.0) compare_label ls
 
--- the ids of rows at these places
+-- the ids of the rows of these labels
 abbrev pub ids_at : List ℕ → List (Label × ℕ) → List ℕ
 ids_at ids ls = map (λ (l : Label × ℕ). get_or ids l.1 0) ls
 
@@ -17,6 +18,6 @@ ids_at ids ls = map (λ (l : Label × ℕ). get_or ids l.1 0) ls
 abbrev pub ids_of : List ℕ → List (Label × ℕ) → Label → List ℕ
 ids_of ids ls p = ids_at ids (members (λ (l : Label × ℕ). l.0) compare_label ls p)
 
--- a list of postings for each label
+-- the postings of each label
 abbrev pub lists_of : List ℕ → List (Label × ℕ) → List Text
 lists_of ids ls = map (λ p. framed (postings_body (ids_of ids ls p))) (labels_in ls)

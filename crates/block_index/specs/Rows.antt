@@ -1,4 +1,4 @@
--- Which rows have an index.
+-- The rows that have an index.
 use Rattle.std.specs.Prelude.{◌≡◌, ℕ, ◌^◌, ◌<◌, ◌<ℤ◌, ◌≤ℤ◌, List, [], ◌∷◌, length}
 use Rattle.std.specs.List.{AllByRecursion}
 use Rattle.std.specs.Int.{w64}
@@ -10,18 +10,19 @@ use Rattle.block_index.specs.declared.row.IndexRow.{IndexRow}
 use Rattle.block_index.specs.Layout.{Text}
 use Rattle.block_index.specs.Index.{symbols, names, pairs, symbols_body, series_body, series_ids, label_index_body, values_of, postings_body, ids_with, label_table_body, postings_table_body, label_entries, postings_entries, index_text}
 
--- Each is followed by one that it may stand before.
+-- P holds of each two neighbours.
 abbrev pub IsChain : {X : Type 0} → (X → X → Type 0) → List X → Type 0
 IsChain P [] = Unit {0}
 IsChain P (x ∷ []) = Unit {0}
 IsChain P (x ∷ y ∷ more) = P x y × IsChain P (y ∷ more)
 
--- a value of Rust's type
+-- the numbers of a chunk have 64 bits
 pub record FitsChunk (c : ChunkMeta) : Type 0 where
   pub min_time : FitsSigned w64 c.min_time
   pub max_time : FitsSigned w64 c.max_time
   pub reference : c.reference < 2 ^ 64
 
+-- A row has a label set and at least one chunk. No chunk ends before it begins, and each ends before the next one begins.
 pub record IsRow (r : IndexRow) : Type 0 where
   pub labels : IsLabelSet r.labels
   pub some : 0 < length r.chunks
@@ -29,20 +30,22 @@ pub record IsRow (r : IndexRow) : Type 0 where
   pub forward : AllByRecursion (λ (c : ChunkMeta). c.min_time ≤ℤ c.max_time) r.chunks
   pub apart : IsChain (λ (a b : ChunkMeta). a.max_time <ℤ b.min_time) r.chunks
 
--- The writer's condition.
+-- The writer's condition on rows: at least one, each valid, and label sets that ascend strictly.
 pub record AreRows (rows : List IndexRow) : Type 0 where
   pub some : 0 < length rows
   pub each : AllByRecursion IsRow rows
   pub ascending : IsChain (λ (a b : IndexRow). compare_labels a.labels b.labels ≡ Less) rows
 
+-- the number fits in four bytes
 abbrev pub IsSmall : ℕ → Type 0
 IsSmall n = n < 2 ^ 32
 
+-- the size of each element fits in four bytes
 abbrev pub AreSmall : {X : Type 0} → (X → ℕ) → List X → Type 0
 AreSmall size xs = AllByRecursion (λ x. IsSmall (size x)) xs
 
--- Every section length, symbol position, series id and count is below 2 ^ 32. (A count or a position is below the length of the
--- section that holds it, so no clause of its own is needed for symbols, values, ids and entries.)
+-- Each length, symbol reference, series id and count is below 2^32. (A count or a reference is below the length of the element that has it,
+-- so symbols, values, ids and entries need no fields here.)
 pub record FitsIndex (rows : List IndexRow) : Type 0 where
   pub symbols_fit : IsSmall (length (symbols_body (symbols rows)))
   pub series_fit : AreSmall (λ r. length (series_body (symbols rows) r)) rows

@@ -1,11 +1,11 @@
--- Tests of rows: words of private functions, which no public contract cites.
+-- Words of private functions: tests of rows.
 use Rattle.std.specs.Prelude.{Bool, true, ◌&&◌, List, [], ◌∷◌, int_lt}
 use Rattle.std.specs.Ordering.{is_lt}
 use Rattle.wal_record.specs.Labels.{compare_labels}
 use Rattle.block_index.specs.declared.row.ChunkMeta.{ChunkMeta}
 use Rattle.block_index.specs.declared.row.IndexRow.{IndexRow}
 
--- each passes the test with the one that follows it
+-- the test holds of each two neighbours
 abbrev pub chain_test : {X : Type 0} → (X → X → Bool) → List X → Bool
 chain_test r [] = true
 chain_test r (x ∷ []) = true

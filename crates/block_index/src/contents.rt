@@ -1,4 +1,4 @@
-//! What rows name.
+//! The labels and the symbols of rows.
 
 ghost use Rattle.std.specs.Prelude.{◌≡◌, ◌<◌, All, length, map, IfOk};
 ghost use Rattle.block_index.specs.Gives.{nows};
@@ -11,18 +11,18 @@ use crate::ordering::{LentLabel, RowLabel, distinct_labels, distinct_texts, sort
 use crate::row::IndexRow;
 use std::alloc::{AllocError, Global};
 
-/// The labels of some rows and the texts of these, lent, each list in its order.
+/// The labels of rows and their texts, borrowed from the rows. Each list is sorted.
 #[derive(Drop)]
 pub(crate) struct Contents<'a> {
-    /// The labels, each with the place of a row that has it.
+    /// Each label of each row, with the index of the row.
     pub(crate) labels: Vec<RowLabel<'a>>,
-    /// The labels without repeats.
+    /// The distinct labels.
     pub(crate) pairs: Vec<LentLabel<'a>>,
-    /// The names and the values without repeats.
+    /// The distinct names and values.
     pub(crate) symbols: Vec<&'a [u8]>,
 }
 
-// What the rows name.
+// Collects the labels and the symbols of rows.
 pub(crate) fn contents_of(alloc: Global, rows: &[IndexRow]) -> Result<Contents<'_>, AllocError>
     ensures labels { IfOk result (λ contents. map row_label_of contents.labels.items ≡ ascending compare_row_label (labels_from 0 rows.now)) }
     ensures within { IfOk result (λ contents. All (λ l. l.row < length rows.now) contents.labels.items) }

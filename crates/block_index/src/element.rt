@@ -1,4 +1,4 @@
-//! One element of a section, and the steps before the sections.
+//! One element of a section.
 
 ghost use Rattle.std.specs.Prelude.{◌≡◌, ◌<◌, ◌≤◌, ◌==◌, not, length, take, drop, List};
 ghost use Rattle.std.specs.List.{list_any};
@@ -11,6 +11,7 @@ use crate::fields::front_uvarint;
 use block_text::is_summed;
 use hw_bytes::be32_at;
 
+// Splits the contents of an element, whose length and checksum it checks, from the bytes after the checksum.
 #[tactic(auto, unfolding(crate::specs::Reading::summed_at))]
 fn summed(bytes: &[u8], len: u64) -> Result<(&[u8], &[u8]), ReadFault>
     ensures { Gives (λ x. (x.0.now, x.1.now)) result (summed_at len bytes.now) }
@@ -28,7 +29,7 @@ fn summed(bytes: &[u8], len: u64) -> Result<(&[u8], &[u8]), ReadFault>
     Ok((front, rest))
 }
 
-// The contents of an element with a length of four bytes, and the bytes after it.
+// Reads an element whose length has four bytes. Returns its contents and the bytes after it.
 #[tactic(auto, unfolding(crate::specs::Reading::framed_at))]
 pub(crate) fn framed(bytes: &[u8]) -> Result<(&[u8], &[u8]), ReadFault>
     ensures { Gives (λ x. (x.0.now, x.1.now)) result (framed_at bytes.now) }
@@ -40,7 +41,7 @@ pub(crate) fn framed(bytes: &[u8]) -> Result<(&[u8], &[u8]), ReadFault>
     summed(rest, u64::from(len))
 }
 
-// The contents of an element whose length is a uvarint, and the bytes after it.
+// Reads an element whose length is a uvarint. Returns its contents and the bytes after it.
 #[tactic(auto, unfolding(crate::specs::Reading::counted_at))]
 pub(crate) fn counted(bytes: &[u8]) -> Result<(&[u8], &[u8]), ReadFault>
     ensures { Gives (λ x. (x.0.now, x.1.now)) result (counted_at bytes.now) }
@@ -52,7 +53,7 @@ pub(crate) fn counted(bytes: &[u8]) -> Result<(&[u8], &[u8]), ReadFault>
     summed(rest, len)
 }
 
-// Some byte is not zero.
+// Returns whether a byte is not zero.
 fn has_other(bytes: &[u8]) -> bool
     ensures { result ≡ list_any (λ b. not (b == 0)) bytes.now }
 {
@@ -64,7 +65,7 @@ fn has_other(bytes: &[u8]) -> bool
     false
 }
 
-// What follows the zeros that align an element.
+// Skips the zeros that align an element at the offset `at`.
 #[tactic(auto, unfolding(crate::specs::Reading::aligned_at))]
 pub(crate) fn aligned(bytes: &[u8], align: usize, at: usize) -> Result<&[u8], ReadFault>
     requires { 0 < align }

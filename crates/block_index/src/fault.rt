@@ -1,26 +1,26 @@
-//! Why an index was not written or not read.
+//! The error of reading an index.
 
 use std::alloc::{AllocError, AllocFailed};
 use std::error::Error;
 use std::fmt;
 use wal_record::LabelFault;
 
-/// Why bytes are no index: the first fault that is met.
+/// The error of reading an index: the first fault found.
 #[derive(Clone, Copy, Debug, PartialEq, Eq)]
 pub enum ReadFault {
-    /// The first four bytes are not the magic `BAAAD700`.
+    /// The bytes do not begin with the magic number `BAAAD700`.
     BadMagic,
     /// The fifth byte is missing or not 2.
     BadVersion,
-    /// There is no room for a table of contents, its checksum differs, or its places are not in the order of the sections.
+    /// The bytes are too short for a table of contents, its checksum is wrong, or its offsets are not in the order of the sections.
     BadToc,
-    /// The checksum of an element differs.
+    /// The checksum of an element is wrong.
     BadSum,
-    /// A section does not hold what it should: a length past its end, a missing zero, a reference to no symbol, bytes left over.
+    /// A section is malformed: a length exceeds it, padding is not zero, a reference has no symbol, or bytes are left over.
     BadSection,
-    /// The rows that were read have no index, or another one.
+    /// The rows that were read have no index, or another one than these bytes.
     NotCanonical,
-    /// Memory ran out.
+    /// Out of memory.
     Memory,
 }
 

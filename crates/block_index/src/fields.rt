@@ -1,4 +1,4 @@
-//! Numbers and texts at the front of an element's contents.
+//! Fields of an element's contents. Each function reads one field at the front and returns it with the bytes after it.
 
 ghost use Rattle.std.specs.Prelude.{◌≡◌, ◌≤◌, map, length, IfSome};
 ghost use Rattle.std.specs.Option.{option_map};
@@ -10,6 +10,7 @@ use crate::fault::ReadFault;
 use crate::row::ChunkMeta;
 use hw_bytes::{be32_at, text_at, uvarint_at, varint_at};
 
+// Reads a big-endian number of four bytes.
 #[tactic(auto, unfolding(crate::specs::Fields::four))]
 pub(crate) fn four(bytes: &[u8]) -> Result<(u32, &[u8]), ReadFault>
     ensures { Gives (λ x. (x.0, x.1.now)) result (four_in bytes.now) }
@@ -21,7 +22,7 @@ pub(crate) fn four(bytes: &[u8]) -> Result<(u32, &[u8]), ReadFault>
     Ok((number, rest))
 }
 
-// As `uvarint_at`, said by a function.
+// Calls `uvarint_at`. Its result is specified by a function instead of a relation.
 pub(crate) fn front_uvarint(bytes: &[u8]) -> Option<(u64, usize)>
     ensures exact { result ≡ uvarint_in_front bytes.now }
     ensures within { IfSome result (λ found. found.1 ≤ length bytes.now) }
@@ -29,7 +30,7 @@ pub(crate) fn front_uvarint(bytes: &[u8]) -> Option<(u64, usize)>
     uvarint_at(bytes)
 }
 
-// As `varint_at`.
+// Calls `varint_at`. Its result is specified by a function instead of a relation.
 fn front_varint(bytes: &[u8]) -> Option<(i64, usize)>
     ensures exact { result ≡ varint_in_front bytes.now }
     ensures within { IfSome result (λ found. found.1 ≤ length bytes.now) }
@@ -37,7 +38,7 @@ fn front_varint(bytes: &[u8]) -> Option<(i64, usize)>
     varint_at(bytes)
 }
 
-// As `text_at`.
+// Calls `text_at`. Its result is specified by a function instead of a relation.
 fn front_text(bytes: &[u8]) -> Option<(&[u8], usize)>
     ensures exact { option_map (λ found. (found.0.now, found.1)) result ≡ text_in_front bytes.now }
     ensures within { IfSome result (λ found. found.1 ≤ length bytes.now) }
@@ -45,6 +46,7 @@ fn front_text(bytes: &[u8]) -> Option<(&[u8], usize)>
     text_at(bytes)
 }
 
+// Reads a uvarint.
 #[tactic(auto, unfolding(crate::specs::Fields::uvarint_field))]
 pub(crate) fn uvarint(bytes: &[u8]) -> Result<(u64, &[u8]), ReadFault>
     ensures { Gives (λ x. (x.0, x.1.now)) result (uvarint_field bytes.now) }
@@ -56,6 +58,7 @@ pub(crate) fn uvarint(bytes: &[u8]) -> Result<(u64, &[u8]), ReadFault>
     Ok((number, rest))
 }
 
+// Reads a varint.
 #[tactic(auto, unfolding(crate::specs::Fields::varint_field))]
 pub(crate) fn varint(bytes: &[u8]) -> Result<(i64, &[u8]), ReadFault>
     ensures { Gives (λ x. (x.0, x.1.now)) result (varint_field bytes.now) }
@@ -67,6 +70,7 @@ pub(crate) fn varint(bytes: &[u8]) -> Result<(i64, &[u8]), ReadFault>
     Ok((number, rest))
 }
 
+// Reads a text: its length as a uvarint, and its bytes.
 #[tactic(auto, unfolding(crate::specs::Fields::text_field))]
 pub(crate) fn text(bytes: &[u8]) -> Result<(&[u8], &[u8]), ReadFault>
     ensures { Gives (λ x. (x.0.now, x.1.now)) result (text_field bytes.now) }
@@ -78,6 +82,7 @@ pub(crate) fn text(bytes: &[u8]) -> Result<(&[u8], &[u8]), ReadFault>
     Ok((text, rest))
 }
 
+// Reads a reference to a symbol: a uvarint below the limit.
 #[tactic(auto, unfolding(crate::specs::Fields::reference_field))]
 pub(crate) fn reference(bytes: &[u8], limit: u64) -> Result<(u64, &[u8]), ReadFault>
     ensures { Gives (λ x. (x.0, x.1.now)) result (reference_field limit bytes.now) }
@@ -89,6 +94,7 @@ pub(crate) fn reference(bytes: &[u8], limit: u64) -> Result<(u64, &[u8]), ReadFa
     Ok((number, rest))
 }
 
+// Reads the references of a label's name and value.
 #[tactic(auto, unfolding(crate::specs::Fields::pair_field))]
 pub(crate) fn pair(bytes: &[u8], limit: u64) -> Result<((u64, u64), &[u8]), ReadFault>
     ensures { Gives (λ x. (x.0, x.1.now)) result (pair_field limit bytes.now) }
@@ -98,6 +104,7 @@ pub(crate) fn pair(bytes: &[u8], limit: u64) -> Result<((u64, u64), &[u8]), Read
     Ok(((name, value), rest))
 }
 
+// Returns the time `span` milliseconds after `time`, if it has 64 bits.
 fn later(time: i64, span: u64) -> Result<i64, ReadFault>
     ensures { Gives (λ t. t) result (later_in time span) }
 {
@@ -107,6 +114,7 @@ fn later(time: i64, span: u64) -> Result<i64, ReadFault>
     }
 }
 
+// Reads the first chunk of a series: its least time, the span to its greatest time, and its reference.
 #[tactic(auto, unfolding(crate::specs::Fields::first_chunk))]
 pub(crate) fn first_chunk(bytes: &[u8]) -> Result<(ChunkMeta, &[u8]), ReadFault>
     ensures { Gives (λ x. (x.0, x.1.now)) result (first_chunk_in bytes.now) }
@@ -123,6 +131,7 @@ pub(crate) fn first_chunk(bytes: &[u8]) -> Result<(ChunkMeta, &[u8]), ReadFault>
     Ok((chunk, rest))
 }
 
+// Reads the chunk after `last`: the gap between the two, its span, and the step from one reference to the other.
 #[tactic(auto, unfolding(crate::specs::Fields::next_chunk))]
 pub(crate) fn next_chunk(last: ChunkMeta, bytes: &[u8]) -> Result<(ChunkMeta, &[u8]), ReadFault>
     ensures { Gives (λ x. (x.0, x.1.now)) result (next_chunk_in last bytes.now) }
@@ -140,6 +149,7 @@ pub(crate) fn next_chunk(last: ChunkMeta, bytes: &[u8]) -> Result<(ChunkMeta, &[
     Ok((chunk, rest))
 }
 
+// Skips a number of four bytes, which must be `value`.
 #[tactic(auto, unfolding(crate::specs::Fields::fixed))]
 pub(crate) fn fixed(bytes: &[u8], value: u32) -> Result<&[u8], ReadFault>
     ensures { Gives (λ x. x.now) result (fixed_in value bytes.now) }
@@ -151,6 +161,7 @@ pub(crate) fn fixed(bytes: &[u8], value: u32) -> Result<&[u8], ReadFault>
     Ok(rest)
 }
 
+// Reads a number of four bytes below the limit.
 #[tactic(auto, unfolding(crate::specs::Fields::four_below))]
 pub(crate) fn four_below(bytes: &[u8], limit: u64) -> Result<(u32, &[u8]), ReadFault>
     ensures { Gives (λ x. (x.0, x.1.now)) result (four_below_in limit bytes.now) }
@@ -162,6 +173,7 @@ pub(crate) fn four_below(bytes: &[u8], limit: u64) -> Result<(u32, &[u8]), ReadF
     Ok((number, rest))
 }
 
+// Skips a byte, which must be `mark`.
 #[tactic(auto, unfolding(crate::specs::Fields::marked))]
 pub(crate) fn marked(bytes: &[u8], mark: u8) -> Result<&[u8], ReadFault>
     ensures { Gives (λ x. x.now) result (marked_in mark bytes.now) }

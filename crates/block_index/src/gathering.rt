@@ -1,4 +1,4 @@
-//! The labels and the texts that rows name.
+//! Lists of the labels and the texts of rows.
 
 ghost use Rattle.std.specs.Prelude.{◌≡◌, ◌++◌, ◌∷◌, [], map, IfOk, OnOk};
 ghost use Rattle.std.specs.List.{flat_map};
@@ -11,7 +11,7 @@ use crate::ordering::{LentLabel, RowLabel};
 use crate::row::IndexRow;
 use std::alloc::{AllocError, Global};
 
-// Adds the labels of a row.
+// Appends the labels of a row, each with the index of the row.
 fn push_row_labels<'a>(
     labels: &mut Vec<RowLabel<'a>>,
     row: &'a IndexRow,
@@ -27,7 +27,7 @@ fn push_row_labels<'a>(
     Ok(())
 }
 
-// The labels of the rows, each with its row's place.
+// Lists the labels of rows, each with the index of its row.
 pub(crate) fn row_labels(alloc: Global, rows: &[IndexRow]) -> Result<Vec<RowLabel<'_>>, AllocError>
     ensures { IfOk result (λ labels. map row_label_of labels.items ≡ labels_from 0 rows.now) }
 {
@@ -38,7 +38,7 @@ pub(crate) fn row_labels(alloc: Global, rows: &[IndexRow]) -> Result<Vec<RowLabe
     Ok(labels)
 }
 
-// The labels alone.
+// Lists these labels without their rows.
 pub(crate) fn labels_alone<'a>(
     alloc: Global,
     labels: &[RowLabel<'a>],
@@ -52,7 +52,7 @@ pub(crate) fn labels_alone<'a>(
     Ok(alone)
 }
 
-// The names of the labels.
+// Lists the names of labels.
 pub(crate) fn names_of<'a>(
     alloc: Global,
     labels: &[LentLabel<'a>],
@@ -66,7 +66,7 @@ pub(crate) fn names_of<'a>(
     Ok(names)
 }
 
-// The names and the values of the labels.
+// Lists the names and the values of labels.
 pub(crate) fn texts_of<'a>(
     alloc: Global,
     labels: &[LentLabel<'a>],

@@ -1,4 +1,4 @@
-//! Elements that stand together since they have a key in common: label indices by name, postings by label.
+//! Sections with an element for each group of labels: a label index for each name, and postings for each label.
 
 ghost use Rattle.std.specs.Prelude.{◌≡◌, ℕ, ◌+◌, ◌<◌, ◌≤◌, ◌++◌, ◌∷◌, [], ◌^◌, Bool, All, length, drop, map, IfOk, IsOk, OnOk, Err};
 ghost use Rattle.std.specs.List.{zip};
@@ -19,21 +19,21 @@ use block_text::{WriteFault, four_bytes_of};
 use hw_bytes::put_be32;
 use std::alloc::{AllocError, Global};
 
-/// A name, and the place of its label index.
+/// A name with the offset of its label index.
 #[derive(Clone, Copy)]
 pub(crate) struct NamePlace<'a> {
     pub(crate) name: &'a [u8],
     pub(crate) place: usize,
 }
 
-/// A label, and the place of its list of postings.
+/// A label with the offset of its postings.
 #[derive(Clone, Copy)]
 pub(crate) struct LabelPlace<'a> {
     pub(crate) label: LentLabel<'a>,
     pub(crate) place: usize,
 }
 
-/// What belongs to a group with others of its kind.
+/// Elements that form groups.
 trait Grouped {
     ghost is_with: { Self → Self → Bool };
 
@@ -41,7 +41,7 @@ trait Grouped {
         ensures { result ≡ Self.is_with self.now other.now };
 }
 
-// labels with one name
+// labels with the same name
 impl Grouped for LentLabel<'_> {
     ghost use Rattle.wal_record.specs.Labels.{same_text};
 
@@ -52,7 +52,7 @@ impl Grouped for LentLabel<'_> {
     }
 }
 
-// rows with one label
+// rows with the same label
 impl Grouped for RowLabel<'_> {
     ghost use Rattle.wal_record.specs.Labels.{same_label};
     ghost use Rattle.block_index.specs.Lent.{label_of};
@@ -64,7 +64,7 @@ impl Grouped for RowLabel<'_> {
     }
 }
 
-// The element at a place, before those that follow it.
+// Returns the element at an index.
 pub(crate) fn element_at<T: Copy>(elements: &[T], place: usize) -> T
     requires { place < length elements.now }
     ensures { drop place elements.now ≡ result ∷ drop (place + 1) elements.now }
@@ -72,7 +72,7 @@ pub(crate) fn element_at<T: Copy>(elements: &[T], place: usize) -> T
     elements[place]
 }
 
-// How many elements from the front on belong to the group of this one.
+// Counts the first elements that belong to the group of `first`.
 fn run_length<T: Grouped>(first: &T, elements: &[T]) -> usize
     ensures exact { result ≡ run_length_of (λ x. T.is_with x first.now) elements.now }
     ensures within { result ≤ length elements.now }
@@ -85,7 +85,7 @@ fn run_length<T: Grouped>(first: &T, elements: &[T]) -> usize
     elements.len()
 }
 
-// Adds the label index of some labels with one name.
+// Appends the label index of the labels of one name. `body` is scratch space.
 #[tactic(auto, unfolding(crate::specs::Index::label_index_body))]
 fn put_label_index(
     out: &mut Vec<u8>,
@@ -108,7 +108,7 @@ fn put_label_index(
     put_framed(out, body.as_slice())
 }
 
-// Adds a label index for each name of the labels, and gives their places.
+// Appends a label index for each name of the labels, and returns their offsets.
 pub(crate) fn put_label_indices<'a>(
     alloc: Global,
     out: &mut Vec<u8>,
@@ -119,9 +119,12 @@ pub(crate) fn put_label_indices<'a>(
     requires small { length table.now < 2 ^ 32 }
     requires labels { IsAscending compare_label (map label_of labels.now) }
     ensures text { OnOk result (out.new.items ≡ put_all 4 out.old.items (label_indices_of (nows table.now) (map label_of labels.now))) }
-    ensures named { IfOk result (λ named. map name_place_of named.items ≡ zip (names_in (map label_of labels.now)) (places 4 out.old.items (label_indices_of (nows table.now) (map label_of labels.now)))) }
-    ensures small { IsOk result → AreSmall (λ name. length (label_index_body (nows table.now) (values_of (map label_of labels.now) name))) (names_in (map label_of labels.now)) }
-    ensures large { result ≡ Err WriteFault.TooLarge → AreSmall (λ name. length (label_index_body (nows table.now) (values_of (map label_of labels.now) name))) (names_in (map label_of labels.now)) → ⊥ }
+    ensures named { IfOk result (λ named.
+        map name_place_of named.items ≡ zip (names_in (map label_of labels.now)) (places 4 out.old.items (label_indices_of (nows table.now) (map label_of labels.now)))) }
+    ensures small { IsOk result →
+        AreSmall (λ name. length (label_index_body (nows table.now) (values_of (map label_of labels.now) name))) (names_in (map label_of labels.now)) }
+    ensures large { result ≡ Err WriteFault.TooLarge →
+        AreSmall (λ name. length (label_index_body (nows table.now) (values_of (map label_of labels.now) name))) (names_in (map label_of labels.now)) → ⊥ }
 {
     let mut named = Vec::new(alloc);
     let mut body = Vec::new(alloc);
@@ -141,7 +144,7 @@ pub(crate) fn put_label_indices<'a>(
     Ok(named)
 }
 
-// Adds a list of ids.
+// Appends the postings with these ids. `body` is scratch space.
 #[tactic(auto, unfolding(crate::specs::Index::postings_body))]
 fn put_ids(out: &mut Vec<u8>, body: &mut Vec<u8>, ids: &[u32]) -> Result<(), WriteFault>
     ensures text { OnOk result (out.new.items ≡ out.old.items ++ framed_text (postings_body ids.now)) }
@@ -156,7 +159,7 @@ fn put_ids(out: &mut Vec<u8>, body: &mut Vec<u8>, ids: &[u32]) -> Result<(), Wri
     put_framed(out, body.as_slice())
 }
 
-// The ids of the rows of some labels.
+// Replaces `gathered` with the ids of the rows of these labels.
 fn gather_ids(
     gathered: &mut Vec<u32>,
     ids: &[u32],
@@ -172,7 +175,7 @@ fn gather_ids(
     Ok(())
 }
 
-// Adds a list of ids for each label of the rows, and gives their places.
+// Appends the postings of each label, and adds their offsets to `listed`.
 fn put_lists<'a>(
     alloc: Global,
     out: &mut Vec<u8>,
@@ -183,7 +186,8 @@ fn put_lists<'a>(
     requires within { All (λ l. l.row < length ids.now) labels.now }
     requires ascending { IsAscending compare_row_label (map row_label_of labels.now) }
     ensures text { OnOk result (out.new.items ≡ put_all 4 out.old.items (lists_of ids.now (map row_label_of labels.now))) }
-    ensures listed { OnOk result (map label_place_of listed.new.items ≡ map label_place_of listed.old.items ++ zip (labels_in (map row_label_of labels.now)) (places 4 out.old.items (lists_of ids.now (map row_label_of labels.now)))) }
+    ensures listed { OnOk result (map label_place_of listed.new.items ≡ map label_place_of listed.old.items
+        ++ zip (labels_in (map row_label_of labels.now)) (places 4 out.old.items (lists_of ids.now (map row_label_of labels.now)))) }
     ensures small { IsOk result → AreSmall (λ p. length (postings_body (ids_of ids.now (map row_label_of labels.now) p))) (labels_in (map row_label_of labels.now)) }
     ensures large { result ≡ Err WriteFault.TooLarge → AreSmall (λ p. length (postings_body (ids_of ids.now (map row_label_of labels.now) p))) (labels_in (map row_label_of labels.now)) → ⊥ }
 {
@@ -206,7 +210,7 @@ fn put_lists<'a>(
     Ok(())
 }
 
-// Adds the list of all ids, and one for each label of the rows, and gives their places.
+// Appends the postings of all series and then those of each label, and returns their offsets.
 pub(crate) fn put_postings<'a>(
     alloc: Global,
     out: &mut Vec<u8>,
@@ -216,7 +220,9 @@ pub(crate) fn put_postings<'a>(
     requires within { All (λ l. l.row < length ids.now) labels.now }
     requires ascending { IsAscending compare_row_label (map row_label_of labels.now) }
     ensures text { OnOk result (out.new.items ≡ put_all 4 out.old.items (framed_text (postings_body ids.now) ∷ lists_of ids.now (map row_label_of labels.now))) }
-    ensures listed { IfOk result (λ listed. map label_place_of listed.items ≡ zip (everything ∷ labels_in (map row_label_of labels.now)) (places 4 out.old.items (framed_text (postings_body ids.now) ∷ lists_of ids.now (map row_label_of labels.now)))) }
+    ensures listed { IfOk result (λ listed. map label_place_of listed.items ≡
+        zip (everything ∷ labels_in (map row_label_of labels.now))
+        (places 4 out.old.items (framed_text (postings_body ids.now) ∷ lists_of ids.now (map row_label_of labels.now)))) }
     ensures small { IsOk result → IsSmall (length (postings_body ids.now)) }
     ensures each_small { IsOk result → AreSmall (λ p. length (postings_body (ids_of ids.now (map row_label_of labels.now) p))) (labels_in (map row_label_of labels.now)) }
     ensures large { result ≡ Err WriteFault.TooLarge → IsSmall (length (postings_body ids.now))

@@ -1,4 +1,4 @@
-//! The steps before the sections.
+//! The header and the table of contents.
 
 ghost use Rattle.std.specs.Prelude.{◌≡◌, ◌≤◌, ◌-◌, length, drop, Some, true, IfOk, IsOk};
 ghost use Rattle.block_index.specs.Reading.{head_of, toc_of, places_of as places_in, are_places};
@@ -8,7 +8,7 @@ use crate::toc::Toc;
 use block_text::is_summed;
 use hw_bytes::{be32_at, be64_at};
 
-// The magic and the version are there.
+// Checks the magic number and the version.
 #[tactic(auto, unfolding(crate::specs::Reading::head_of))]
 pub(crate) fn head(bytes: &[u8]) -> Result<(), ReadFault>
     ensures { result ≡ head_of bytes.now }
@@ -28,7 +28,7 @@ pub(crate) fn head(bytes: &[u8]) -> Result<(), ReadFault>
     }
 }
 
-// The six places at the front.
+// Reads the six offsets of the table of contents.
 #[tactic(auto, unfolding(crate::specs::Reading::places_of))]
 fn places(bytes: &[u8]) -> Option<Toc>
     requires { 48 ≤ length bytes.now }
@@ -49,6 +49,7 @@ fn places(bytes: &[u8]) -> Option<Toc>
     })
 }
 
+// Returns whether the offsets are in the order of the sections, up to `stop`, where the table of contents begins.
 fn is_ordered(toc: Toc, stop: u64) -> bool
     ensures { result ≡ are_places toc stop }
 {
@@ -61,7 +62,7 @@ fn is_ordered(toc: Toc, stop: u64) -> bool
         && toc.postings_table <= stop
 }
 
-// The places of the sections.
+// Reads the table of contents at the end of an index, and checks it.
 #[tactic(auto, unfolding(crate::specs::Reading::toc_of))]
 pub(crate) fn toc(bytes: &[u8]) -> Result<Toc, ReadFault>
     ensures found { result ≡ toc_of bytes.now }

@@ -1,4 +1,4 @@
-//! The index of a block: its text, and reading it again.
+//! Writing and reading the index of a block (index.md of the public standard).
 #![tactic(auto)]
 
 mod contents;

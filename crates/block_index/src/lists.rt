@@ -9,7 +9,7 @@ use crate::fields::{first_chunk, next_chunk, pair, text};
 use crate::row::ChunkMeta;
 use std::alloc::Global;
 
-// Some texts.
+// Reads `count` texts.
 pub(crate) fn texts<'a>(
     alloc: Global,
     count: u64,
@@ -27,7 +27,7 @@ pub(crate) fn texts<'a>(
     Ok((items, rest))
 }
 
-// Some pairs of references.
+// Reads the references of `count` labels.
 pub(crate) fn pairs(
     alloc: Global,
     count: u64,
@@ -46,7 +46,7 @@ pub(crate) fn pairs(
     Ok((items, rest))
 }
 
-// Chunks behind those that were read, the last of which is `last`.
+// Reads `count` more chunks. The last one before them is `last`.
 fn later_chunks(
     chunks: Vec<ChunkMeta>,
     count: u64,
@@ -67,7 +67,7 @@ fn later_chunks(
     Ok((chunks, rest))
 }
 
-// Some chunks.
+// Reads the `count` chunks of a series.
 #[tactic(auto, unfolding(crate::specs::Fields::chunks_field))]
 pub(crate) fn chunks(
     alloc: Global,

@@ -1,4 +1,4 @@
-//! Texts and labels in order, without repeats.
+//! Sorted lists of distinct texts and labels.
 
 ghost use Rattle.std.specs.Prelude.{◌≡◌, map, IfOk};
 ghost use Rattle.block_index.specs.Gives.{nows};
@@ -6,21 +6,21 @@ ghost use Rattle.block_index.specs.Lent.{label_of, row_label_of, compare_row_lab
 ghost use Rattle.block_index.specs.Sets.{ascending, text_cmp};
 ghost use Rattle.wal_record.specs.Labels.{compare_label};
 
-/// A label, lent.
+/// A borrowed label. Labels are ordered by name, then by value.
 #[derive(Clone, Copy, PartialEq, Eq, PartialOrd, Ord)]
 pub(crate) struct LentLabel<'a> {
     pub(crate) name: &'a [u8],
     pub(crate) value: &'a [u8],
 }
 
-/// A label of a row, lent, and the row's place.
+/// A borrowed label with the index of its row. They are ordered by label, then by row.
 #[derive(Clone, Copy, PartialEq, Eq, PartialOrd, Ord)]
 pub(crate) struct RowLabel<'a> {
     pub(crate) label: LentLabel<'a>,
     pub(crate) row: usize,
 }
 
-// The texts in their order, without repeats.
+// Sorts texts and drops repeats.
 pub(crate) fn distinct_texts<'a>(texts: Vec<&'a [u8]>) -> Vec<&'a [u8]>
     ensures { nows result.items ≡ ascending text_cmp (nows texts.entry.items) }
 {
@@ -30,7 +30,7 @@ pub(crate) fn distinct_texts<'a>(texts: Vec<&'a [u8]>) -> Vec<&'a [u8]>
     texts
 }
 
-// The labels in their order, without repeats.
+// Sorts labels and drops repeats.
 pub(crate) fn distinct_labels<'a>(labels: Vec<LentLabel<'a>>) -> Vec<LentLabel<'a>>
     ensures { map label_of result.items ≡ ascending compare_label (map label_of labels.entry.items) }
 {
@@ -40,7 +40,7 @@ pub(crate) fn distinct_labels<'a>(labels: Vec<LentLabel<'a>>) -> Vec<LentLabel<'
     labels
 }
 
-// The labels of rows in their order, and for each in the order of rows.
+// Sorts the labels of rows and drops repeats.
 pub(crate) fn sorted_row_labels<'a>(labels: Vec<RowLabel<'a>>) -> Vec<RowLabel<'a>>
     ensures { map row_label_of result.items ≡ ascending compare_row_label (map row_label_of labels.entry.items) }
 {

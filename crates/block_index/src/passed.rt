@@ -1,4 +1,4 @@
-//! Sections whose elements are read and not kept.
+//! Sections that are checked but not kept.
 
 ghost use Rattle.std.specs.Prelude.{◌≡◌, List, ℕ, Result, length};
 ghost use Rattle.block_index.specs.declared.fault.ReadFault.{ReadFault as Fault};
@@ -12,16 +12,16 @@ use crate::skips::{
     postings_table_contents,
 };
 
-// A form of contents.
+// The form of the contents of an element.
 pub(crate) trait Contents {
     ghost done: { Self → List ℕ → Result (Unit {0}) Fault };
 
-    // Whether the bytes are such contents.
+    // Checks that the bytes have this form.
     fn pass(&self, bytes: &[u8]) -> Result<(), ReadFault>
         ensures { Gives (λ x. x) result (done self.now bytes.now) };
 }
 
-// What follows the element at the front of a section's rest, which ends at the place stop.
+// Checks the element at the front of a section's rest, and returns the bytes after it. The section ends at the offset `stop`.
 #[tactic(auto, unfolding(crate::specs::Reading::framed_done))]
 fn pass_element<'a, C: Contents>(
     form: &C,
@@ -36,7 +36,7 @@ fn pass_element<'a, C: Contents>(
     Ok(rest)
 }
 
-// The elements of a section that ends at the place stop.
+// Checks all elements of a section, which ends at the offset `stop`.
 pub(crate) fn pass_section<C: Contents>(
     form: &C,
     stop: usize,
@@ -54,7 +54,7 @@ pub(crate) fn pass_section<C: Contents>(
     Ok(())
 }
 
-// The one element of a section.
+// Checks a section that is one element.
 #[tactic(auto, unfolding(crate::specs::Reading::only_done))]
 pub(crate) fn pass_only<C: Contents>(form: &C, section: &[u8]) -> Result<(), ReadFault>
     ensures { Gives (λ x. x) result (only_done (C.done form.now) section.now) }
@@ -64,7 +64,7 @@ pub(crate) fn pass_only<C: Contents>(form: &C, section: &[u8]) -> Result<(), Rea
     all_read(rest)
 }
 
-// The contents of a label index, whose references are below the limit.
+// The contents of a label index. Its references are below the limit.
 #[derive(Drop)]
 pub(crate) struct LabelIndex {
     pub(crate) limit: u64,
@@ -80,7 +80,7 @@ impl Contents for LabelIndex {
     }
 }
 
-// The contents of a list of postings.
+// The contents of postings.
 pub(crate) struct PostingsList;
 
 impl Contents for PostingsList {
@@ -93,7 +93,7 @@ impl Contents for PostingsList {
     }
 }
 
-// The contents of the label table.
+// The contents of the label offset table.
 pub(crate) struct LabelTable;
 
 impl Contents for LabelTable {
@@ -106,7 +106,7 @@ impl Contents for LabelTable {
     }
 }
 
-// The contents of the postings table.
+// The contents of the postings offset table.
 pub(crate) struct PostingsTable;
 
 impl Contents for PostingsTable {

@@ -1,16 +1,16 @@
-//! Rows of an index.
+//! The rows of an index.
 
 use hw_bytes::Items;
 use wal_record::LabelSet;
 
-/// A chunk's times, in milliseconds, and where it lies in the chunk files.
+/// The times of a chunk in milliseconds, and its reference.
 #[derive(Clone, Copy, Debug, PartialEq, Eq)]
 pub struct ChunkMeta {
     /// The time of its first sample.
     pub min_time: i64,
     /// The time of its last sample.
     pub max_time: i64,
-    /// Its file, counted from 0, times 2^32, and its offset there.
+    /// The number of its file, from 0, times 2^32, plus its offset in the file.
     pub reference: u64,
 }
 
@@ -18,6 +18,6 @@ pub struct ChunkMeta {
 #[derive(Debug, Drop)]
 pub struct IndexRow {
     pub labels: LabelSet,
-    /// In the order of their times.
+    /// Its chunks in the order of their times.
     pub chunks: Items<ChunkMeta>,
 }

@@ -1,4 +1,4 @@
-//! Rows out of what is stored of them, and whether rows meet the writer's condition.
+//! Rows from stored series, and the writer's condition on rows.
 
 ghost use Rattle.std.specs.Prelude.{◌≡◌, ◌⊎◌, ◌<◌, ◌++◌, ◌∷◌, [], List, length, get_or, map, int_le, true, false, Err, IfErr, IfOk, IsTrue, OnOk, ◌≤ℤ◌};
 ghost use Rattle.std.specs.List.{AllByRecursion};
@@ -18,7 +18,7 @@ use hw_bytes::Items;
 use std::alloc::Global;
 use wal_record::{LabelFault, LabelSet};
 
-// A symbol by its place; no text past the last one.
+// Returns a symbol by its reference, or an empty text if there is none.
 fn symbol<'a>(symbols: &[&'a [u8]], place: u64) -> &'a [u8]
     ensures { result.now ≡ get_or (nows symbols.now) place [] }
 {
@@ -28,20 +28,21 @@ fn symbol<'a>(symbols: &[&'a [u8]], place: u64) -> &'a [u8]
     }
 }
 
-// Adds the label at these references, if it may follow.
+// Appends the label with these references of its name and value, if it can follow the labels.
 fn push_label(
     labels: &mut LabelSet,
     symbols: &[&[u8]],
     reference: &(u64, u64),
 ) -> Result<(), LabelFault>
     ensures added { OnOk result (labels.new ≡ labels.old ++ label_at (nows symbols.now) reference.now ∷ []) }
-    ensures bad { IfErr result (λ fault. (fault ≡ LabelFault.Memory) ⊎ ((0 < length (label_at (nows symbols.now) reference.now).name) × IsNext labels.old (label_at (nows symbols.now) reference.now).name → ⊥)) }
+    ensures bad { IfErr result (λ fault. (fault ≡ LabelFault.Memory)
+        ⊎ ((0 < length (label_at (nows symbols.now) reference.now).name) × IsNext labels.old (label_at (nows symbols.now) reference.now).name → ⊥)) }
 {
     let (name, value) = *reference;
     labels.push(symbol(symbols, name), symbol(symbols, value))
 }
 
-// The labels at these references, if they are a label set.
+// Builds the label set with these references of names and values.
 fn labels_of(
     alloc: Global,
     symbols: &[&[u8]],
@@ -58,7 +59,7 @@ fn labels_of(
     Ok(labels)
 }
 
-// The row of a stored series, if its labels are a label set.
+// Builds the row of a stored series.
 fn row_of(alloc: Global, symbols: &[&[u8]], series: &StoredSeries) -> Result<IndexRow, LabelFault>
     ensures found { IfOk result (λ row. row ≡ row_in (nows symbols.now) (stored series.now)) }
     ensures bad { IfErr result (λ fault. (fault ≡ LabelFault.Memory) ⊎ (IsRow (row_in (nows symbols.now) (stored series.now)) → ⊥)) }
@@ -71,7 +72,7 @@ fn row_of(alloc: Global, symbols: &[&[u8]], series: &StoredSeries) -> Result<Ind
     })
 }
 
-// The rows of stored series, if their labels are label sets.
+// Builds the rows of stored series.
 pub(crate) fn rows_of(
     alloc: Global,
     symbols: &[&[u8]],
@@ -87,15 +88,17 @@ pub(crate) fn rows_of(
     Ok(rows)
 }
 
+// Returns whether a chunk with these times does not end before it begins.
 fn is_span(min_time: i64, max_time: i64, reference: u64) -> bool
     ensures forward { result ≡ int_le min_time max_time }
     ensures fits { FitsChunk (record { min_time = min_time; max_time = max_time; reference = reference }) }
 {
-    // the numbers have 64 bits, as the proof says of each that it is given
+    // for the proof: a number that is used has 64 bits
     let _reference = reference;
     min_time <= max_time
 }
 
+// Returns whether a chunk does not end before it begins.
 fn is_forward(chunk: &ChunkMeta) -> bool
     ensures forward { result ≡ int_le chunk.now.min_time chunk.now.max_time }
     ensures fits { FitsChunk chunk.now }
@@ -103,7 +106,7 @@ fn is_forward(chunk: &ChunkMeta) -> bool
     is_span(chunk.min_time, chunk.max_time, chunk.reference)
 }
 
-// Whether no chunk ends before it begins.
+// Returns whether no chunk ends before it begins.
 fn are_forward(chunks: &[ChunkMeta]) -> bool
     ensures fits { IsTrue result → AllByRecursion FitsChunk chunks.now }
     ensures forward { IsTrue result → AllByRecursion (λ (c : Meta). c.min_time ≤ℤ c.max_time) chunks.now }
@@ -117,13 +120,14 @@ fn are_forward(chunks: &[ChunkMeta]) -> bool
     true
 }
 
+// Returns whether the first chunk ends before the second begins.
 fn ends_before(first: &ChunkMeta, second: &ChunkMeta) -> bool
     ensures { result ≡ ends_before_in first.now second.now }
 {
     first.max_time < second.min_time
 }
 
-// Whether each chunk begins past the end of the one before it.
+// Returns whether each chunk ends before the next one begins.
 fn are_apart(chunks: &[ChunkMeta]) -> bool
     ensures { result ≡ chain_test ends_before_in chunks.now }
 {
@@ -135,11 +139,12 @@ fn are_apart(chunks: &[ChunkMeta]) -> bool
     true
 }
 
+// Returns whether a row has chunks, in the order of their times, none of which ends before it begins.
 fn is_row(row: &IndexRow) -> bool
     ensures row { IsTrue result → IsRow row.now }
     ensures other { result ≡ false → IsRow row.now → ⊥ }
 {
-    // for the proof, which learns by it that the labels are a label set
+    // for the proof: the labels are a label set
     let _count = row.labels.len();
     let chunks = row.chunks.as_slice();
     if chunks.is_empty() {
@@ -151,6 +156,7 @@ fn is_row(row: &IndexRow) -> bool
     are_apart(chunks)
 }
 
+// Returns whether `is_row` holds of each row.
 fn each_is_row(rows: &[IndexRow]) -> bool
     ensures each { IsTrue result → AllByRecursion IsRow rows.now }
     ensures other { result ≡ false → AllByRecursion IsRow rows.now → ⊥ }
@@ -169,7 +175,7 @@ fn comes_before(first: &IndexRow, second: &IndexRow) -> bool
     first.labels.compare(&second.labels).is_lt()
 }
 
-// Whether the rows are in the order of their label sets.
+// Returns whether the label sets of the rows ascend strictly.
 fn ascend(rows: &[IndexRow]) -> bool
     ensures { result ≡ chain_test comes_before_in rows.now }
 {
@@ -181,7 +187,7 @@ fn ascend(rows: &[IndexRow]) -> bool
     true
 }
 
-// Whether the rows meet the writer's condition.
+// Returns whether the rows meet the writer's condition: at least one, each valid, and in the order of their label sets.
 pub(crate) fn are_rows(rows: &[IndexRow]) -> bool
     ensures rows { IsTrue result → AreRows rows.now }
     ensures other { result ≡ false → AreRows rows.now → ⊥ }

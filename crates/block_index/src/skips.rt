@@ -1,4 +1,4 @@
-//! Fields that are read and not kept.
+//! Fields that are checked but not kept.
 
 ghost use Rattle.std.specs.Prelude.{◌≡◌, List, ℕ};
 ghost use Rattle.block_index.specs.Gives.{Gives, nothing_left, rest_of};
@@ -7,18 +7,18 @@ ghost use Rattle.block_index.specs.Fields.{Field, label_index_done, label_table_
 use crate::fault::ReadFault;
 use crate::fields::{fixed, four, four_below, marked, text, uvarint};
 
-// A form of fields.
+// The form of a field.
 pub(crate) trait Skipped {
     ghost Value: { Type 0 };
 
     ghost field: { Self → Field Value };
 
-    // What follows the field at the front.
+    // Skips a field at the front, and returns the bytes after it.
     fn skip<'a>(&self, bytes: &'a [u8]) -> Result<&'a [u8], ReadFault>
         ensures { Gives (λ x. x.now) result (rest_of (field self.now bytes.now)) };
 }
 
-// What follows some fields.
+// Skips `count` fields.
 pub(crate) fn skip_all<'a, F: Skipped>(
     form: &F,
     count: u64,
@@ -33,7 +33,7 @@ pub(crate) fn skip_all<'a, F: Skipped>(
     Ok(rest)
 }
 
-// A number of four bytes that is below the limit.
+// A number of four bytes below the limit.
 #[derive(Drop)]
 pub(crate) struct FourBelow {
     pub(crate) limit: u64,
@@ -70,7 +70,7 @@ impl Skipped for Four {
     }
 }
 
-// An entry of the label table.
+// An entry of the label offset table.
 struct LabelEntry;
 
 impl Skipped for LabelEntry {
@@ -90,7 +90,7 @@ impl Skipped for LabelEntry {
     }
 }
 
-// An entry of the postings table.
+// An entry of the postings offset table.
 struct PostingsEntry;
 
 impl Skipped for PostingsEntry {
@@ -112,7 +112,7 @@ impl Skipped for PostingsEntry {
     }
 }
 
-// Nothing stands behind an element's contents.
+// Checks that no bytes are left.
 pub(crate) fn all_read(rest: &[u8]) -> Result<(), ReadFault>
     ensures { Gives (λ x. x) result (nothing_left rest.now) }
 {
@@ -123,7 +123,7 @@ pub(crate) fn all_read(rest: &[u8]) -> Result<(), ReadFault>
     }
 }
 
-// The contents of a label index.
+// Checks the contents of a label index. Its references must be below the limit.
 #[tactic(auto, unfolding(crate::specs::Fields::label_index_done))]
 pub(crate) fn label_index_contents(limit: u64, bytes: &[u8]) -> Result<(), ReadFault>
     ensures { Gives (λ x. x) result (label_index_done limit bytes.now) }
@@ -134,7 +134,7 @@ pub(crate) fn label_index_contents(limit: u64, bytes: &[u8]) -> Result<(), ReadF
     all_read(rest)
 }
 
-// The contents of a list of postings.
+// Checks the contents of postings.
 #[tactic(auto, unfolding(crate::specs::Fields::postings_done))]
 pub(crate) fn postings_contents(bytes: &[u8]) -> Result<(), ReadFault>
     ensures { Gives (λ x. x) result (postings_done bytes.now) }
@@ -144,7 +144,7 @@ pub(crate) fn postings_contents(bytes: &[u8]) -> Result<(), ReadFault>
     all_read(rest)
 }
 
-// The contents of the label table.
+// Checks the contents of the label offset table.
 #[tactic(auto, unfolding(crate::specs::Fields::label_table_done))]
 pub(crate) fn label_table_contents(bytes: &[u8]) -> Result<(), ReadFault>
     ensures { Gives (λ x. x) result (label_table_done bytes.now) }
@@ -154,7 +154,7 @@ pub(crate) fn label_table_contents(bytes: &[u8]) -> Result<(), ReadFault>
     all_read(rest)
 }
 
-// The contents of the postings table.
+// Checks the contents of the postings offset table.
 #[tactic(auto, unfolding(crate::specs::Fields::postings_table_done))]
 pub(crate) fn postings_table_contents(bytes: &[u8]) -> Result<(), ReadFault>
     ensures { Gives (λ x. x) result (postings_table_done bytes.now) }

@@ -1,4 +1,4 @@
-//! The steps before an index is known to be canonical.
+//! Reading all sections of an index.
 
 ghost use Rattle.std.specs.Prelude.{◌≡◌, ◌≤◌, length, map, Err};
 ghost use Rattle.block_index.specs.Gives.{Gives, nows};
@@ -11,7 +11,7 @@ use crate::passed::{LabelIndex, LabelTable, PostingsList, PostingsTable, pass_on
 use crate::stored::{StoredSeries, series_section, symbols_section};
 use std::alloc::Global;
 
-// The bytes from one place to another.
+// Returns the bytes between two offsets.
 fn between(bytes: &[u8], from: u64, to: u64) -> &[u8]
     requires order { from ≤ to }
     requires within { to ≤ length bytes.now }
@@ -22,7 +22,7 @@ fn between(bytes: &[u8], from: u64, to: u64) -> &[u8]
     those
 }
 
-// The symbols and the series, once all else was read.
+// Reads the symbols and the series, and checks the other sections.
 #[tactic(auto, unfolding(crate::specs::Reading::stored_in))]
 pub(crate) fn stored_index(
     alloc: Global,

@@ -1,4 +1,4 @@
-//! Symbols and series as they are stored.
+//! The sections of symbols and of series.
 
 ghost use Rattle.std.specs.Prelude.{◌≡◌, map};
 ghost use Rattle.block_index.specs.Reading.{all_elements, only_element, series_element_at};
@@ -14,14 +14,14 @@ use crate::row::ChunkMeta;
 use hw_bytes::Items;
 use std::alloc::Global;
 
-/// A series by the references of its labels, and its chunks.
+/// A stored series: the references of the names and values of its labels, and its chunks.
 #[derive(Debug, Drop)]
 pub(crate) struct StoredSeries {
     pub(crate) labels: Items<(u64, u64)>,
     pub(crate) chunks: Items<ChunkMeta>,
 }
 
-// The contents of the symbols.
+// Reads the contents of the symbols.
 #[tactic(auto, unfolding(crate::specs::Fields::symbols_field))]
 pub(crate) fn symbols_contents<'a>(
     alloc: Global,
@@ -37,7 +37,7 @@ pub(crate) fn symbols_contents<'a>(
     Ok(symbols)
 }
 
-// The contents of a series, whose references are below the limit.
+// Reads the contents of a series. Its references must be below the limit.
 #[tactic(auto, unfolding(crate::specs::Fields::series_field))]
 pub(crate) fn series_contents(
     alloc: Global,
@@ -59,7 +59,7 @@ pub(crate) fn series_contents(
     })
 }
 
-// The series at the front of a section's rest, which ends at the place stop.
+// Reads the series at the front of the section's rest, and returns the bytes after it. The section ends at the offset `stop`.
 #[tactic(auto, unfolding(crate::specs::Reading::series_element_at))]
 fn series_element(
     alloc: Global,
@@ -75,7 +75,7 @@ fn series_element(
     Ok((series, rest))
 }
 
-// The series of a section that ends at the place stop.
+// Reads all series of the section, which ends at the offset `stop`.
 pub(crate) fn series_section(
     alloc: Global,
     limit: u64,
@@ -97,7 +97,7 @@ pub(crate) fn series_section(
     Ok(found)
 }
 
-// The symbols of a section, which are its one element.
+// Reads the symbols, the only element of their section.
 #[tactic(auto, unfolding(crate::specs::Reading::only_element))]
 pub(crate) fn symbols_section<'a>(
     alloc: Global,

@@ -1,4 +1,4 @@
-//! The symbols, the offset tables and the places of the sections.
+//! Writing the symbols, the offset tables and the table of contents.
 
 ghost use Rattle.std.specs.Prelude.{◌≡◌, ◌<◌, ◌≤◌, ◌++◌, ◌^◌, length, map, OnOk, IsOk, Err};
 ghost use Rattle.block_index.specs.Gives.{nows};
@@ -13,7 +13,7 @@ use block_text::{WriteFault, four_bytes_of, put_sum};
 use hw_bytes::{put_be32, put_be64, put_text, put_uvarint};
 use std::alloc::{AllocError, Global};
 
-// Adds the symbols.
+// Appends the symbols.
 #[tactic(auto, unfolding(crate::specs::Index::symbols_body))]
 pub(crate) fn put_symbols(
     alloc: Global,
@@ -33,7 +33,7 @@ pub(crate) fn put_symbols(
     put_framed(out, body.as_slice())
 }
 
-// Adds an entry of the label offset table.
+// Appends an entry of the label offset table.
 fn put_label_entry(body: &mut Vec<u8>, entry: &NamePlace<'_>) -> Result<(), AllocError>
     ensures { OnOk result (body.new.items ≡ body.old.items ++ label_entry (name_place_of entry.now)) }
 {
@@ -42,7 +42,7 @@ fn put_label_entry(body: &mut Vec<u8>, entry: &NamePlace<'_>) -> Result<(), Allo
     put_uvarint(body, entry.place as u64)
 }
 
-// Adds the label offset table.
+// Appends the label offset table.
 #[tactic(auto, unfolding(crate::specs::Index::label_table_body))]
 pub(crate) fn put_label_table(
     alloc: Global,
@@ -61,7 +61,7 @@ pub(crate) fn put_label_table(
     put_framed(out, body.as_slice())
 }
 
-// Adds an entry of the postings offset table.
+// Appends an entry of the postings offset table.
 fn put_postings_entry(body: &mut Vec<u8>, entry: &LabelPlace<'_>) -> Result<(), AllocError>
     ensures { OnOk result (body.new.items ≡ body.old.items ++ postings_entry (label_place_of entry.now)) }
 {
@@ -71,7 +71,7 @@ fn put_postings_entry(body: &mut Vec<u8>, entry: &LabelPlace<'_>) -> Result<(), 
     put_uvarint(body, entry.place as u64)
 }
 
-// Adds the postings offset table.
+// Appends the postings offset table.
 #[tactic(auto, unfolding(crate::specs::Index::postings_table_body))]
 pub(crate) fn put_postings_table(
     alloc: Global,
@@ -90,7 +90,7 @@ pub(crate) fn put_postings_table(
     put_framed(out, body.as_slice())
 }
 
-// Adds the places of the sections, and their checksum.
+// Appends the table of contents: the offsets of the sections and their checksum.
 pub(crate) fn put_toc(alloc: Global, out: &mut Vec<u8>, toc: Toc) -> Result<(), AllocError>
     ensures { OnOk result (out.new.items ≡ out.old.items ++ toc_text toc.symbols toc.series toc.label_indices toc.label_table toc.postings toc.postings_table
         ++ sum_text (toc_text toc.symbols toc.series toc.label_indices toc.label_table toc.postings toc.postings_table)) }

@@ -1,4 +1,4 @@
-//! The public calls: an index is written, and read again.
+//! The public functions, which write and read a whole index.
 
 ghost use Rattle.std.specs.Prelude.{◌≡◌, ◌⊎◌, List, Err, IfOk, IfErr, map};
 ghost use Rattle.block_index.specs.declared.row.IndexRow.{IndexRow as Row};
@@ -22,7 +22,7 @@ use block_text::WriteFault;
 use hw_bytes::Items;
 use std::alloc::Global;
 
-/// The index of some rows, with the ids that it gives to their series.
+/// The text of an index, with the ids of its series.
 #[derive(Debug, Drop)]
 pub struct NumberedIndex {
     pub text: Items<u8>,
@@ -30,7 +30,7 @@ pub struct NumberedIndex {
     pub ids: Items<u32>,
 }
 
-/// The rows of an index, with the ids that it gives to their series.
+/// The rows of an index, with the ids of their series.
 #[derive(Debug, Drop)]
 pub struct NumberedRows {
     pub rows: Items<IndexRow>,
@@ -38,11 +38,11 @@ pub struct NumberedRows {
     pub ids: Items<u32>,
 }
 
-// The magic, and the version.
+// the magic number and the version
 const HEAD: [u8; 5] = [0xBA, 0xAA, 0xD7, 0x00, 0x02];
 
-/// The text of the index of these rows, and the ids of their series. `TooLarge` where a section's length, a symbol's position, an id or a
-/// count passes 2^32 - 1.
+/// Writes the index of rows, and returns it with the ids of their series. If a length, a symbol's reference, an id or a count exceeds
+/// 2^32 - 1, `TooLarge` is returned.
 pub fn write_numbered_index(alloc: Global, rows: &[IndexRow]) -> Result<NumberedIndex, WriteFault>
     requires { AreRows rows.now }
     ensures text { IfOk result (λ index. index.text ≡ index_text rows.now) }
@@ -79,7 +79,7 @@ pub fn write_numbered_index(alloc: Global, rows: &[IndexRow]) -> Result<Numbered
     })
 }
 
-/// The text of the index of these rows, as `write_numbered_index` gives it.
+/// Writes the index of rows. Unlike `write_numbered_index` it returns no ids.
 pub fn write_index(alloc: Global, rows: &[IndexRow]) -> Result<Vec<u8>, WriteFault>
     requires { AreRows rows.now }
     ensures text { IfOk result (λ text. text.items ≡ index_text rows.now) }
@@ -89,7 +89,7 @@ pub fn write_index(alloc: Global, rows: &[IndexRow]) -> Result<Vec<u8>, WriteFau
     Ok(write_numbered_index(alloc, rows)?.text.into_vec())
 }
 
-// The index of these rows, if they have one.
+// Writes the index of rows that were read. If they have none, `NotCanonical` is returned.
 fn rewritten(alloc: Global, rows: &[IndexRow]) -> Result<NumberedIndex, ReadFault>
     requires { AreRows rows.now }
     ensures text { IfOk result (λ index. index.text ≡ index_text rows.now) }
@@ -104,7 +104,7 @@ fn rewritten(alloc: Global, rows: &[IndexRow]) -> Result<NumberedIndex, ReadFaul
     }
 }
 
-// The rows of the symbols and the series, with their ids, if the bytes are their index.
+// Builds the rows of symbols and series. If the bytes are not the index of these rows, `NotCanonical` is returned.
 fn canonical(
     alloc: Global,
     symbols: &[&[u8]],
@@ -114,7 +114,8 @@ fn canonical(
     ensures rows { IfOk result (λ read. read.rows ≡ map (row_in (nows symbols.now)) (map stored series.now)) }
     ensures found { IfOk result (λ read. IsIndex bytes.now read.rows) }
     ensures ids { IfOk result (λ read. read.ids ≡ series_ids read.rows) }
-    ensures bad { IfErr result (λ fault. (fault ≡ ReadFault.Memory) ⊎ ((fault ≡ ReadFault.NotCanonical) × (IsIndex bytes.now (map (row_in (nows symbols.now)) (map stored series.now)) → ⊥))) }
+    ensures bad { IfErr result (λ fault. (fault ≡ ReadFault.Memory)
+        ⊎ ((fault ≡ ReadFault.NotCanonical) × (IsIndex bytes.now (map (row_in (nows symbols.now)) (map stored series.now)) → ⊥))) }
 {
     let rows = rows_of(alloc, symbols, series)?;
     if !are_rows(rows.as_slice()) {
@@ -130,14 +131,15 @@ fn canonical(
     })
 }
 
-/// The rows whose index the bytes are, and the ids of their series.
+/// Reads an index, and returns its rows with the ids of their series. The bytes must be exactly the index of these rows; otherwise the
+/// first fault is returned, in the order of the variants of `ReadFault`, but of `BadSum` and `BadSection` the first in the bytes.
 pub fn read_numbered_index(alloc: Global, bytes: &[u8]) -> Result<NumberedRows, ReadFault>
-    // Rows come only of their own index, and no index is refused.
+    // Rows are read only from their own index, and every index is read unless memory runs out.
     ensures found { IfOk result (λ read. IsIndex bytes.now read.rows) }
     ensures ids { IfOk result (λ read. read.ids ≡ series_ids read.rows) }
     ensures only { (rows : List Row) → IsIndex bytes.now rows → IfOk result (λ read. read.rows ≡ rows) }
     ensures refuses { (rows : List Row) → IsIndex bytes.now rows → IfErr result (λ fault. fault ≡ ReadFault.Memory) }
-    // Which fault it is. Those of the header and of the table of contents are told whatever memory there is.
+    // The fault. Those of the header and of the table of contents do not depend on memory.
     ensures fault { IfErr result (λ fault. Answers bytes.now fault) }
     ensures front { (fault : ReadFault) → front_of bytes.now ≡ Err fault → result ≡ Err fault }
 {
@@ -145,9 +147,9 @@ pub fn read_numbered_index(alloc: Global, bytes: &[u8]) -> Result<NumberedRows, 
     canonical(alloc, symbols.as_slice(), series.as_slice(), bytes)
 }
 
-/// The rows whose index the bytes are, as `read_numbered_index` gives them. The first fault that is met is answered: `BadMagic`,
-/// `BadVersion`, `BadToc`, then `BadSum` or `BadSection` in the order of the sections, then `NotCanonical`. The first three are told whatever
-/// memory there is.
+/// Reads an index, and returns its rows. Unlike `read_numbered_index` it returns no ids. The first fault is returned: `BadMagic`,
+/// `BadVersion`, `BadToc`, then `BadSum` or `BadSection` in the order of the sections, then `NotCanonical`. The first three do not depend
+/// on memory.
 pub fn read_index(alloc: Global, bytes: &[u8]) -> Result<Vec<IndexRow>, ReadFault>
     ensures found { IfOk result (λ rows. IsIndex bytes.now rows.items) }
     ensures only { (rows : List Row) → IsIndex bytes.now rows → IfOk result (λ read. read.items ≡ rows) }

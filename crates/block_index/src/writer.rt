@@ -1,4 +1,4 @@
-//! Writing elements and sections.
+//! Writing elements, and the section of series.
 
 ghost use Rattle.std.specs.Prelude.{◌≡◌, ℕ, ◌<◌, ◌≤◌, ◌++◌, ◌/◌, ◌^◌, ◌-ℤ◌, unsigned_abs, length, map, replicate, OnOk, IfOk, IsOk, Err};
 ghost use Rattle.std.specs.List.{flat_map};
@@ -18,7 +18,7 @@ use hw_bytes::{put_be32, put_uvarint, put_varint};
 use std::alloc::{AllocError, Global};
 use wal_record::LabelSet;
 
-// Adds an element with a length of four bytes.
+// Appends an element: its length in four bytes, its contents and their checksum.
 pub(crate) fn put_framed(out: &mut Vec<u8>, body: &[u8]) -> Result<(), WriteFault>
     ensures text { OnOk result (out.new.items ≡ out.old.items ++ framed_text body.now) }
     ensures small { IsOk result → length body.now < 2 ^ 32 }
@@ -31,7 +31,7 @@ pub(crate) fn put_framed(out: &mut Vec<u8>, body: &[u8]) -> Result<(), WriteFaul
     Ok(())
 }
 
-// Adds an element with a uvarint for its length.
+// Appends an element: its length as a uvarint, its contents and their checksum.
 fn put_counted(out: &mut Vec<u8>, body: &[u8]) -> Result<(), WriteFault>
     ensures text { OnOk result (out.new.items ≡ out.old.items ++ counted_text body.now) }
     ensures small { IsOk result → length body.now < 2 ^ 32 }
@@ -44,7 +44,7 @@ fn put_counted(out: &mut Vec<u8>, body: &[u8]) -> Result<(), WriteFault>
     Ok(())
 }
 
-// Adds some zeros.
+// Appends zeros.
 fn put_zeros(out: &mut Vec<u8>, count: usize) -> Result<(), AllocError>
     ensures { OnOk result (out.new.items ≡ out.old.items ++ replicate count 0) }
 {
@@ -54,7 +54,7 @@ fn put_zeros(out: &mut Vec<u8>, count: usize) -> Result<(), AllocError>
     Ok(())
 }
 
-// Adds the zeros that align an element.
+// Appends the zeros that align the next element.
 pub(crate) fn put_padding(out: &mut Vec<u8>, align: usize) -> Result<(), AllocError>
     requires { 0 < align }
     ensures { OnOk result (out.new.items ≡ out.old.items ++ replicate (padding align (length out.old.items)) 0) }
@@ -63,13 +63,14 @@ pub(crate) fn put_padding(out: &mut Vec<u8>, align: usize) -> Result<(), AllocEr
     put_zeros(out, count)
 }
 
+// Returns whether the first text is less than the other.
 fn is_before(text: &[u8], other: &[u8]) -> bool
     ensures { result ≡ is_lt (text_cmp text.now other.now) }
 {
     text.cmp(other).is_lt()
 }
 
-// How many of the texts come before this one.
+// Counts the texts of a sorted table that are less than this one. For a symbol this is its reference.
 pub(crate) fn rank_of(table: &[&[u8]], text: &[u8]) -> usize
     requires { IsAscending text_cmp (nows table.now) }
     ensures { result ≡ rank text_cmp text.now (nows table.now) }
@@ -77,7 +78,7 @@ pub(crate) fn rank_of(table: &[&[u8]], text: &[u8]) -> usize
     table.partition_point(|other| is_before(other, text))
 }
 
-// Adds the references of a label.
+// Appends the references of the name and the value of a label.
 fn put_refs(out: &mut Vec<u8>, table: &[&[u8]], name: &[u8], value: &[u8]) -> Result<(), AllocError>
     requires { IsAscending text_cmp (nows table.now) }
     ensures { OnOk result (out.new.items ≡ out.old.items ++ label_refs (nows table.now) (label name.now value.now)) }
@@ -86,6 +87,7 @@ fn put_refs(out: &mut Vec<u8>, table: &[&[u8]], name: &[u8], value: &[u8]) -> Re
     put_uvarint(out, rank_of(table, value) as u64)
 }
 
+// Appends the references of all labels of a set.
 fn put_labels(out: &mut Vec<u8>, table: &[&[u8]], labels: &LabelSet) -> Result<(), AllocError>
     requires { IsAscending text_cmp (nows table.now) }
     ensures { OnOk result (out.new.items ≡ out.old.items ++ flat_map (label_refs (nows table.now)) labels.now) }
@@ -97,20 +99,21 @@ fn put_labels(out: &mut Vec<u8>, table: &[&[u8]], labels: &LabelSet) -> Result<(
     Ok(())
 }
 
-// How far one time is after another.
+// Returns the distance of two times.
 fn span(from: i64, to: i64) -> u64
     ensures { result ≡ unsigned_abs (to -ℤ from) }
 {
     to.abs_diff(from)
 }
 
-// The step from one reference to the next.
+// Returns the difference of two references modulo 2^64, as a signed number.
 fn reference_step(old: u64, new: u64) -> i64
     ensures { result ≡ reference_step_of old new }
 {
     new.wrapping_sub(old).cast_signed()
 }
 
+// Appends a chunk after the chunk `last`.
 fn put_next_chunk(out: &mut Vec<u8>, last: ChunkMeta, chunk: ChunkMeta) -> Result<(), AllocError>
     ensures { OnOk result (out.new.items ≡ out.old.items ++ next_chunk_text last chunk) }
 {
@@ -120,6 +123,7 @@ fn put_next_chunk(out: &mut Vec<u8>, last: ChunkMeta, chunk: ChunkMeta) -> Resul
     Ok(())
 }
 
+// Appends the first chunk of a row.
 #[tactic(auto, unfolding(crate::specs::Index::first_chunk_text))]
 fn put_first_chunk(out: &mut Vec<u8>, chunk: ChunkMeta) -> Result<(), AllocError>
     ensures { OnOk result (out.new.items ≡ out.old.items ++ first_chunk_text chunk) }
@@ -130,6 +134,7 @@ fn put_first_chunk(out: &mut Vec<u8>, chunk: ChunkMeta) -> Result<(), AllocError
     Ok(())
 }
 
+// Appends the chunks after the first one.
 fn put_later_chunks(
     out: &mut Vec<u8>,
     first: ChunkMeta,
@@ -145,7 +150,7 @@ fn put_later_chunks(
     Ok(())
 }
 
-// Adds the chunks of a row.
+// Appends the chunks of a row.
 #[tactic(auto, unfolding(crate::specs::Index::chunks_text))]
 fn put_chunks(out: &mut Vec<u8>, chunks: &[ChunkMeta]) -> Result<(), AllocError>
     ensures { OnOk result (out.new.items ≡ out.old.items ++ chunks_text chunks.now) }
@@ -160,7 +165,7 @@ fn put_chunks(out: &mut Vec<u8>, chunks: &[ChunkMeta]) -> Result<(), AllocError>
     }
 }
 
-// Adds the contents of a series.
+// Appends the contents of a series.
 #[tactic(auto, unfolding(crate::specs::Index::series_body))]
 fn put_series_body(out: &mut Vec<u8>, table: &[&[u8]], row: &IndexRow) -> Result<(), AllocError>
     requires { IsAscending text_cmp (nows table.now) }
@@ -172,7 +177,7 @@ fn put_series_body(out: &mut Vec<u8>, table: &[&[u8]], row: &IndexRow) -> Result
     put_chunks(out, row.chunks.as_slice())
 }
 
-// Adds the series, and gives their ids.
+// Appends the series of rows, and returns their ids.
 pub(crate) fn put_series(
     alloc: Global,
     out: &mut Vec<u8>,
