@@ -69,8 +69,6 @@ mod postings;
 #[cfg(test)]
 mod prepares;
 #[cfg(test)]
-mod raw_logs;
-#[cfg(test)]
 mod references;
 #[cfg(test)]
 mod refused;
