@@ -1,4 +1,4 @@
--- Samples and hidden runs of an hour.
+-- The samples and the hidden runs of an hour.
 use Rattle.std.specs.Prelude.{ℤ, List, map, filter, int_le}
 use Rattle.std.specs.Int.{int_min, int_max}
 use Rattle.head_column.specs.declared.items.Sample.{Sample}
@@ -10,7 +10,7 @@ use Rattle.block_read.specs.Blocks.{hour_last}
 abbrev pub samples_in : ℤ → List Sample → List Sample
 samples_in k samples = filter (λ s. is_in_hour k s.time) samples
 
--- the times of the run that are in the hour, ends included
+-- the run clipped to the hour, both ends included; it can be empty
 abbrev pub clip : ℤ → Run → Run
 clip k r = record { min_time = int_max r.min_time (hour_start k); max_time = int_min r.max_time (hour_last k) }
 

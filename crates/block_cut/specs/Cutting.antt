@@ -1,4 +1,4 @@
--- Words of proofs and of private functions, cited by no public contract: how a cut comes to its block.
+-- Words of private functions and of proofs: the steps from a head to a block.
 use Rattle.std.specs.Prelude.{◌≡◌, ◌<◌, ◌==◌, ℕ, ℤ, List, Option, None, Some, All, Contains, IsTrue, length, map, if◌then◌else◌}
 use Rattle.std.specs.List.{zip, sum_by}
 use Rattle.std.specs.declared.cmp.Ordering.TheVariants.{Less}
@@ -25,11 +25,11 @@ use Rattle.block_cut.specs.declared.rows.CutRow.{CutRow}
 use Rattle.block_cut.specs.Clipping.{samples_in, runs_in}
 use Rattle.block_cut.specs.Rows.{IsFull}
 
--- the row, its samples in chunks
+-- the row with its samples in chunks
 abbrev pub in_chunks : BlockRow → CutRow
 in_chunks row = record { labels = row.labels; chunks = chunks_of row.samples; hidden = row.hidden }
 
--- These are some rows of the hour, at least one, in the order of label sets, with their samples in chunks.
+-- These are rows of the hour with their samples in chunks: at least one, in the order of label sets.
 pub record AreCutRows (k : ℤ) (rows : List CutRow) : Type 0 where
   pub those : List BlockRow
   pub cut : rows ≡ map in_chunks those
@@ -37,7 +37,7 @@ pub record AreCutRows (k : ℤ) (rows : List CutRow) : Type 0 where
   pub each : All (IsRowOf k) those
   pub ascending : IsChain (λ (a b : BlockRow). compare_labels a.labels b.labels ≡ Less) those
 
--- what an hour has of a series, its samples in chunks
+-- the row of a series with its samples in chunks; it can have none
 abbrev pub cut_row : ℤ → Labels × History → CutRow
 cut_row k series = record { labels = series.0; chunks = chunks_of (samples_in k series.1.samples); hidden = runs_in k series.1.hidden }
 
@@ -53,36 +53,37 @@ series_at c slot = (labels_at c.table slot, history_at c slot)
 abbrev pub row_at : ℤ → Content → ℕ → Option CutRow
 row_at k c slot = if_chunks (cut_row k (series_at c slot))
 
--- what holds of the history of every series
+-- The history of every series has samples that rise in time and runs with gaps between them.
 pub record IsHistory (h : History) : Type 0 where
   pub rises : Rises h.samples
   pub fit : All IsFit h.samples
   pub apart : AreApart h.hidden
 
--- the chunks of a row as the index names them, with these references
+-- the entries of chunks in the index, with these references
 abbrev pub named : List Chunk × List ℕ → List ChunkMeta
 named x = map meta_of (zip x.0 x.1)
 
--- the chunks of each row as the index names them
+-- the entries of the chunks of each row in the index
 abbrev pub metas_in : List (List Chunk) → List (List ChunkMeta)
 metas_in chunks = map named (zip chunks (references file_limit (texts chunks)))
 
--- the tombstones of a series id and its hidden runs
+-- the tombstones of a series with this id and these runs
 abbrev pub stones : ℕ × List Run → List Tombstone
 stones x = map (λ (r : Run). record { series = x.0; run = r }) x.1
 
--- rows of an index, of their labels and their chunks
+-- the rows of an index from their labels and the entries of their chunks
 abbrev pub index_rows_of : List Labels → List (List ChunkMeta) → List IndexRow
 index_rows_of labels metas = map (λ (x : Labels × List ChunkMeta). record { labels = x.0; chunks = x.1 }) (zip labels metas)
 
--- how many samples some chunks have, and the chunks of some rows
+-- the number of samples in chunks
 abbrev pub chunk_count : List Chunk → ℕ
 chunk_count chunks = sum_by (λ (c : Chunk). c.count) chunks
 
+-- the number of samples in the chunks of rows
 abbrev pub sample_count : List (List Chunk) → ℕ
 sample_count rows = sum_by chunk_count rows
 
--- a full hour with one of these samples, each time of which has 64 bits
+-- One of these samples is in the hour, which is full and no edge.
 pub record IsRangeIn (k : ℤ) (samples : List Sample) (c : Content) : Type 0 where
   pub full : IsFull k c
   pub whole : IsEdge k → ⊥
@@ -90,7 +91,7 @@ pub record IsRangeIn (k : ℤ) (samples : List Sample) (c : Content) : Type 0 wh
   pub is_sample : Contains samples sample
   pub within : IsTrue (is_in_hour k sample.time)
 
--- the same, of the samples of the first n series
+-- A sample of one of the first n series is in the hour, which is full and no edge.
 pub record IsRangeBelow (n : ℕ) (k : ℤ) (c : Content) : Type 0 where
   pub slot : ℕ
   pub below : slot < n

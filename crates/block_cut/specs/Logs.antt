@@ -1,4 +1,4 @@
--- The block that a log has.
+-- The blocks of a log.
 use Rattle.std.specs.Prelude.{ℤ, List, Option}
 use Rattle.wal_log.specs.Inputs.{Files}
 use Rattle.wal_log.specs.declared.reading.Damage.{Damage}
@@ -10,7 +10,7 @@ use Rattle.block_read.specs.declared.block.Block.{Block}
 use Rattle.block_cut.specs.Rows.{rows_of}
 use Rattle.block_read.specs.Blocks.{IsBlockOf}
 
--- These are the parts of the block of the hour, under this name, that the log's records say, read one after another up to its first damage.
+-- This is the block of an hour of a log, with this name: that of the content of the records of the log up to its first damage.
 pub record IsBlockOfLog (log : Files) (hour : ℤ) (ulid : Text) (block : Block) : Type 0 where
   pub records : List Placed
   pub damage : Option Damage

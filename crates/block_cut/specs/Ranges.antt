@@ -6,7 +6,7 @@ use Rattle.head_column.specs.Hours.{IsEdge, is_in_hour}
 use Rattle.head_core.specs.Content.{Content}
 use Rattle.block_cut.specs.Rows.{IsFull}
 
--- some accepted sample of some series is in the hour
+-- an accepted sample of a series is in the hour
 pub record HasSample (k : ℤ) (c : Content) : Type 0 where
   pub history : History
   pub sample : Sample
@@ -14,7 +14,7 @@ pub record HasSample (k : ℤ) (c : Content) : Type 0 where
   pub is_sample : Contains history.samples sample
   pub within : IsTrue (is_in_hour k sample.time)
 
--- a full hour with a sample, each time of which has 64 bits
+-- the hour is full, has an accepted sample, and is no edge
 pub record IsRange (k : ℤ) (c : Content) : Type 0 where
   pub full : IsFull k c
   pub some : HasSample k c

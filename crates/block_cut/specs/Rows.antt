@@ -9,18 +9,19 @@ use Rattle.block_read.specs.declared.rows.BlockRow.{BlockRow}
 use Rattle.block_read.specs.Blocks.{hour_last}
 use Rattle.block_cut.specs.Clipping.{samples_in, runs_in}
 
--- what an hour has of a series
+-- the row of a series; it can have no samples
 abbrev pub row_of : ℤ → Labels × History → BlockRow
 row_of k series = record { labels = series.0; samples = samples_in k series.1.samples; hidden = runs_in k series.1.hidden }
 
+-- whether the row has samples
 abbrev pub has_samples : BlockRow → Bool
 has_samples row = not (length row.samples == 0)
 
--- The rows of the hour: for each series with an accepted sample in it, in the order of label sets, its labels, its samples there, and its hidden
--- runs, clipped to the hour.
+-- The rows of an hour, in the order of label sets: for each series with an accepted sample in the hour its labels, its samples in the hour,
+-- and its hidden runs clipped to the hour.
 unfoldable pub rows_of : ℤ → Content → List BlockRow
 rows_of k c = filter has_samples (map (row_of k) (ascending (λ (a b : Labels × History). compare_labels a.0 b.0) (zip c.table.series c.histories)))
 
--- The hour is full: some accepted sample has a time at or past its end.
+-- An hour is full if some accepted sample has a time at or past its end.
 abbrev pub IsFull : ℤ → Content → Type 0
 IsFull k c = (t : ℤ) × (c.max_time ≡ Some t) × (hour_last k <ℤ t)

@@ -1,4 +1,4 @@
-//! An hour of a head, cut into a block.
+//! Cutting an hour of a head.
 
 ghost use Rattle.std.specs.Prelude.{◌≡◌, ◌↔◌, ◌<◌, ◌^◌, [], false, Err, IfOk, IsTrue, length};
 ghost use Rattle.head_column.specs.Hours.{IsEdge};
@@ -15,7 +15,7 @@ use head_core::Head;
 use std::alloc::Global;
 use std::thread::Threads;
 
-/// Whether an hour that is no edge is full: some accepted sample has a time at or past its end.
+/// Returns whether an hour that is no edge is full: some accepted sample has a time at or past its end.
 pub(crate) fn is_full(head: &Head, hour: Hour) -> bool
     requires sound { head.now.failed ≡ false }
     requires whole { IsEdge hour → ⊥ }
@@ -27,8 +27,8 @@ pub(crate) fn is_full(head: &Head, hour: Hour) -> bool
     }
 }
 
-/// The block of an hour of a head that has not failed: its rows are the series with an accepted sample in the hour, in the order of label
-/// sets. Their chunks are encoded in as many threads as `rt` has processors.
+/// Cuts an hour of a head, which must not have failed, into a block with this name. The rows of the block are the series with an accepted
+/// sample in the hour, in the order of label sets. Their chunks are encoded in as many threads as `rt` has processors.
 pub fn cut(
     rt: &(impl Threads + Sync),
     alloc: Global,
@@ -44,7 +44,7 @@ pub fn cut(
     ensures nothing { result ≡ Err CutFault.Nothing → (IsEdge hour → ⊥) × IsFull hour head.now.content × (rows_of hour head.now.content ≡ []) }
     ensures large { result ≡ Err CutFault.TooLarge → FitsIndex (index_rows (rows_of hour head.now.content)) → 2 ^ 32 < length (files_of (samples_of_rows (rows_of hour head.now.content))) }
 {
-    // for the proof, which learns by this that it is a ULID
+    // for the proof: the digits are those of a ULID
     let _digits = ulid.as_bytes();
     if hour.is_edge() {
         return Err(CutFault::Edge);

@@ -1,22 +1,22 @@
-//! Why a block was not cut or not read.
+//! The error of cutting an hour.
 
 use block_text::WriteFault;
 use std::alloc::{AllocError, AllocFailed};
 use std::error::Error;
 use std::fmt;
 
-/// Why an hour was not cut: the first of these that holds. `Memory` may come before any.
+/// The error of cutting an hour: the first of these that applies, except that `Memory` can come before any.
 #[derive(Clone, Copy, Debug, PartialEq, Eq)]
 pub enum CutFault {
-    /// The hour begins before the least time or ends past the greatest.
+    /// The hour is an edge: it begins before the least time of 64 bits or ends after the greatest.
     Edge,
-    /// No accepted sample has a time at or past the hour's end.
+    /// No accepted sample has a time at or past the end of the hour.
     NotFull,
-    /// The hour is full, and no sample is in it.
+    /// The hour is full, but has no samples.
     Nothing,
-    /// A length, a count, an id or a position of the index passes 2^32 - 1, or there are more than 2^32 chunk files.
+    /// A length, a count, an id or a reference of the index exceeds 2^32 - 1, or there are more than 2^32 chunk files.
     TooLarge,
-    /// Memory ran out.
+    /// Out of memory.
     Memory,
 }
 

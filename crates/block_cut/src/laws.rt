@@ -15,15 +15,15 @@ ghost use Rattle.block_cut.specs.Rows.{rows_of};
 use head_core::one_content;
 use wal_log::one_reading;
 
-/// The bytes of a log decide every byte of its blocks: what `replay_serial` says of a log and what `cut` says of its head make the block that
-/// of the log (`made`), and an hour of a log has at most one block under a name (`one`).
+/// The bytes of a log determine every byte of its blocks. By the contracts of `replay_serial` and `cut`, the block of the head of a log is
+/// a block of the log (`made`), and a log has at most one block for an hour and a name (`one`).
 pub fn one_block()
     ensures made { (log : Files) (hour : ℤ) (ulid : Text) (records : List PlacedRecord) (damage : Option LogDamage) (content : Content) (block : Parts) →
         IsReading log records damage → IsContentOf (contents records) content → IsBlockOf block (record { ulid = ulid; hour = hour; rows = rows_of hour content }) →
         IsBlockOfLog log hour ulid block }
     ensures one { (log : Files) (hour : ℤ) (ulid : Text) (a b : Parts) → IsBlockOfLog log hour ulid a → IsBlockOfLog log hour ulid b → a ≡ b }
 {
-    // the laws that it rests on, for the proof
+    // for the proof: the laws that this one rests on
     one_reading();
     one_content();
 }

@@ -1,4 +1,4 @@
-//! Blocks: an hour of a head, cut into the parts that a block has, and read back.
+//! Cutting an hour of a head into a block.
 #![tactic(auto)]
 
 mod cutting;

@@ -14,7 +14,7 @@ use head_core::Head;
 use head_series::Slot;
 use std::alloc::{AllocError, Global};
 
-// Whether the hour is full and no edge.
+// Returns whether the hour is full and no edge.
 fn can_be_cut(head: &Head, hour: Hour) -> bool
     requires { head.now.failed ≡ false }
     ensures { IsTrue result ↔ (IsEdge hour → ⊥) × IsFull hour head.now.content }
@@ -25,13 +25,14 @@ fn can_be_cut(head: &Head, hour: Hour) -> bool
     is_full(head, hour)
 }
 
+// Returns the hour of a sample.
 fn hour_of(sample: &Sample) -> Hour
     ensures { IsTrue (is_in_hour result sample.now.time) }
 {
     Hour::of(sample.time)
 }
 
-// Adds the hour behind others, if it is not the last of them already.
+// Appends the hour, unless it is the last one already.
 fn push_new(hours: &mut Vec<Hour>, hour: Hour) -> Result<(), AllocError>
     ensures { OnOk result ((k : ℤ) → Contains hours.new.items k ↔ (Contains hours.old.items k ⊎ (k ≡ hour))) }
 {
@@ -44,7 +45,7 @@ fn push_new(hours: &mut Vec<Hour>, hour: Hour) -> Result<(), AllocError>
     Ok(())
 }
 
-// Adds the hours of some samples that are full and no edge.
+// Appends the hours of samples that are full and no edge.
 fn add_hours(hours: &mut Vec<Hour>, head: &Head, samples: &[Sample]) -> Result<(), AllocError>
     requires { head.now.failed ≡ false }
     ensures { OnOk result ((k : ℤ) → Contains hours.new.items k ↔ (Contains hours.old.items k ⊎ IsRangeIn k samples.now head.now.content)) }
@@ -58,6 +59,7 @@ fn add_hours(hours: &mut Vec<Hour>, head: &Head, samples: &[Sample]) -> Result<(
     Ok(())
 }
 
+// Sorts hours in ascending order.
 fn sort_hours(hours: &mut Vec<Hour>) -> Result<(), AllocError>
     ensures permutation { IsPermutation hours.old.items hours.new.items }
     ensures sorted { OnOk result (IsSorted int_cmp hours.new.items) }
@@ -65,7 +67,8 @@ fn sort_hours(hours: &mut Vec<Hour>) -> Result<(), AllocError>
     hours.sort_by_key(|hour| hour.k())
 }
 
-/// The full hours of a head that has not failed that have an accepted sample and are no edge, ascending.
+/// Returns the hours of a head that can be cut, ascending: those that are full, have an accepted sample and are no edge. The head must
+/// not have failed.
 pub fn full_ranges(alloc: Global, head: &Head) -> Result<Vec<Hour>, AllocError>
     requires { head.now.failed ≡ false }
     ensures ascending { IfOk result (λ hours. Ascends hours.items) }

@@ -1,4 +1,4 @@
-//! What an hour of a head has of each series.
+//! The rows of an hour of a head.
 
 ghost use Rattle.std.specs.Prelude.{◌≡◌, ◌<◌, ◌↔◌, ℤ, false, length, map, All, IfOk, OnOk, IsTrue};
 ghost use Rattle.std.specs.List.{filter_map, range_with_len};
@@ -24,10 +24,10 @@ use std::alloc::{AllocError, Global};
 use std::thread::Threads;
 use wal_record::LabelSet;
 
-// The length of an hour in milliseconds.
+// the length of an hour in milliseconds
 const HOUR_LENGTH: i64 = 3_600_000;
 
-/// What an hour has of a series, its samples in chunks.
+/// A series in an hour, with its samples in chunks.
 #[derive(Debug)]
 pub(crate) struct CutRow {
     pub(crate) labels: LabelSet,
@@ -35,7 +35,7 @@ pub(crate) struct CutRow {
     pub(crate) hidden: Items<Run>,
 }
 
-// Written out: where another function lets go of a row, its proof has one call, and not a copy of this.
+// Written by hand instead of derived: the proof of a function that drops a row then has one call instead of a copy of this body.
 impl Drop for CutRow {
     fn drop(self) {
         let CutRow {
@@ -47,7 +47,7 @@ impl Drop for CutRow {
 }
 
 impl CutRow {
-    /// The labels, the chunks and the hidden runs.
+    /// Returns its labels, its chunks and its hidden runs.
     pub(crate) fn into_parts(self) -> (LabelSet, Items<Chunk>, Items<Run>)
         ensures labels { result.0 ≡ self.labels }
         ensures chunks { result.1 ≡ self.chunks }
@@ -62,7 +62,7 @@ impl CutRow {
     }
 }
 
-/// The first time of an hour that is no edge, in milliseconds.
+/// Returns the first millisecond of an hour that is no edge.
 pub(crate) fn first_of(hour: Hour) -> i64
     requires { IsEdge hour → ⊥ }
     ensures { result ≡ hour_start hour }
@@ -70,7 +70,7 @@ pub(crate) fn first_of(hour: Hour) -> i64
     hour.k() * HOUR_LENGTH
 }
 
-/// The last time of an hour that is no edge, in milliseconds.
+/// Returns the last millisecond of an hour that is no edge.
 pub(crate) fn last_of(hour: Hour) -> i64
     requires { IsEdge hour → ⊥ }
     ensures { result ≡ hour_last hour }
@@ -78,7 +78,7 @@ pub(crate) fn last_of(hour: Hour) -> i64
     first_of(hour) + (HOUR_LENGTH - 1)
 }
 
-// The times of a run that are in an hour that is no edge.
+// Clips a run to an hour that is no edge. The result can be empty.
 fn clipped(run: &Run, hour: Hour) -> Run
     requires { IsEdge hour → ⊥ }
     ensures { result ≡ clip hour run.now }
@@ -89,7 +89,7 @@ fn clipped(run: &Run, hour: Hour) -> Run
     }
 }
 
-// The runs, clipped to an hour that is no edge, without the empty ones.
+// Clips runs to an hour that is no edge, and drops those that become empty.
 fn clip_runs(alloc: Global, runs: &[Run], hour: Hour) -> Result<Vec<Run>, AllocError>
     requires { IsEdge hour → ⊥ }
     ensures { IfOk result (λ clipped. clipped.items ≡ runs_in hour runs.now) }
@@ -104,7 +104,7 @@ fn clip_runs(alloc: Global, runs: &[Run], hour: Hour) -> Result<Vec<Run>, AllocE
     Ok(kept)
 }
 
-// What an hour that is no edge has of the series in a slot, where a sample of it is in the hour.
+// Returns the row of the series in a slot, or `None` if it has no sample in the hour, which is no edge.
 fn row_of(alloc: Global, head: &Head, slot: Slot, hour: Hour) -> Result<Option<CutRow>, AllocError>
     requires sound { head.now.failed ≡ false }
     requires slot { slot < length head.now.content.table.series }
@@ -123,7 +123,7 @@ fn row_of(alloc: Global, head: &Head, slot: Slot, hour: Hour) -> Result<Option<C
     }))
 }
 
-// What an hour that is no edge has of each series, by slot, from as many threads as there are processors.
+// Returns the row of each series, if it has one, by slot. Works in as many threads as there are processors. The hour is no edge.
 fn each_row(
     rt: &(impl Threads + Sync),
     alloc: Global,
@@ -151,13 +151,14 @@ fn each_row(
         .collect::<Result<Vec<Option<CutRow>>, AllocError>>(rt, alloc)?
 }
 
-// The rows that there are.
+// Drops the series without a row.
 fn keep_rows(alloc: Global, rows: Vec<Option<CutRow>>) -> Result<Vec<CutRow>, AllocError>
     ensures { IfOk result (λ kept. kept.items ≡ filter_map (λ row. row) rows.items) }
 {
     rows.into_iter().flatten().collect(alloc)
 }
 
+// Sorts rows by their label sets.
 fn sort_rows(rows: &mut Vec<CutRow>) -> Result<(), AllocError>
     ensures permutation { IsPermutation rows.old.items rows.new.items }
     ensures sorted { OnOk result (IsSorted (λ a b. compare_labels a.labels b.labels) rows.new.items) }
@@ -165,7 +166,7 @@ fn sort_rows(rows: &mut Vec<CutRow>) -> Result<(), AllocError>
     rows.sort_by(|a, b| a.labels.compare(&b.labels))
 }
 
-/// What an hour that is no edge has of the series of a head: a row for each with an accepted sample in it, in the order of label sets.
+/// Returns the rows of an hour that is no edge: one for each series with an accepted sample in the hour, in the order of label sets.
 pub(crate) fn rows_in(
     rt: &(impl Threads + Sync),
     alloc: Global,

@@ -1,4 +1,4 @@
-//! The parts of a block.
+//! Writing the parts of a block.
 
 ghost use Rattle.std.specs.Prelude.{◌≡◌, ◌≤◌, ◌<◌, ◌^◌, ◌+◌, ◌++◌, List, Err, OnOk, length, map, All, IfOk};
 ghost use Rattle.std.specs.List.{sum_by, zip};
@@ -24,7 +24,7 @@ use hw_bytes::Items;
 use std::alloc::{AllocError, Global};
 use wal_record::LabelSet;
 
-// The labels, the chunks and the hidden runs of some rows.
+// The labels, the chunks and the hidden runs of rows.
 #[derive(Drop)]
 struct Columns {
     labels: Vec<LabelSet>,
@@ -32,6 +32,7 @@ struct Columns {
     hidden: Vec<Items<Run>>,
 }
 
+// Splits rows into their parts.
 fn split_rows(alloc: Global, rows: Vec<CutRow>) -> Result<Columns, AllocError>
     ensures labels { IfOk result (λ columns. columns.labels.items ≡ map (λ r. r.labels) rows.items) }
     ensures chunks { IfOk result (λ columns. columns.chunks.items ≡ map (λ r. r.chunks) rows.items) }
@@ -53,7 +54,7 @@ fn split_rows(alloc: Global, rows: Vec<CutRow>) -> Result<Columns, AllocError>
     })
 }
 
-// The samples in some chunks, counted on from others. A count past 64 bits, which no block has, stays at the greatest.
+// Adds the number of samples in chunks to `before`. A count that exceeds 64 bits, which no block has, saturates.
 fn add_samples(before: u64, chunks: &[Chunk]) -> u64
     ensures { result ≡ u64_saturate (before + chunk_count chunks.now) }
 {
@@ -64,7 +65,7 @@ fn add_samples(before: u64, chunks: &[Chunk]) -> u64
     count
 }
 
-// How many samples the rows have.
+// Counts the samples of rows.
 fn count_samples(rows: &[Items<Chunk>]) -> u64
     ensures { result ≡ u64_saturate (sample_count rows.now) }
 {
@@ -75,7 +76,7 @@ fn count_samples(rows: &[Items<Chunk>]) -> u64
     count
 }
 
-// How many chunks the rows have.
+// Counts the chunks of rows.
 fn count_chunks(rows: &[Items<Chunk>]) -> u64
     ensures { result ≡ u64_saturate (sum_by length rows.now) }
 {
@@ -86,7 +87,7 @@ fn count_chunks(rows: &[Items<Chunk>]) -> u64
     count
 }
 
-// A row's chunks as the index names them, with their references.
+// Makes the entries of chunks in the index from the chunks and their references.
 fn name_chunks(
     alloc: Global,
     chunks: &[Chunk],
@@ -106,14 +107,14 @@ fn name_chunks(
     Ok(metas)
 }
 
-// The chunk files of some rows, and the rows' chunks as the index names them.
+// The chunk files of rows, and the entries of the chunks in the index.
 #[derive(Drop)]
 struct Placed {
     files: Items<Items<u8>>,
     metas: Vec<Items<ChunkMeta>>,
 }
 
-// Lays the chunks of the rows into files, and lets go of each row before the next, so that no more than one lies there twice.
+// Writes the chunks of rows into files. Each row is dropped before the next is written, so that only one row is in memory twice.
 fn place_chunks(alloc: Global, rows: Vec<Items<Chunk>>) -> Result<Placed, WriteFault>
     requires { AreShort rows.items }
     ensures files { IfOk result (λ placed. placed.files ≡ chunk_files file_limit (all_texts rows.items)) }
@@ -135,6 +136,7 @@ fn place_chunks(alloc: Global, rows: Vec<Items<Chunk>>) -> Result<Placed, WriteF
     })
 }
 
+// Makes the rows of an index from their labels and the entries of their chunks.
 fn index_rows_of(
     alloc: Global,
     labels: Vec<LabelSet>,
@@ -149,7 +151,7 @@ fn index_rows_of(
         .collect(alloc)
 }
 
-// Adds the tombstones of one series behind others.
+// Appends the tombstones of one series.
 fn add_tombstones(
     tombstones: &mut Vec<Tombstone>,
     series: u64,
@@ -163,6 +165,7 @@ fn add_tombstones(
     Ok(())
 }
 
+// Makes the tombstones of all series from their ids and hidden runs.
 fn tombstones_of(
     alloc: Global,
     ids: &[u32],
@@ -177,7 +180,7 @@ fn tombstones_of(
     Ok(tombstones)
 }
 
-/// The block of some rows of an hour that is no edge: at least one, in the order of label sets.
+/// Writes the block of rows of an hour that is no edge. There must be at least one row, in the order of label sets.
 pub(crate) fn write_block(
     alloc: Global,
     rows: Vec<CutRow>,
@@ -189,7 +192,8 @@ pub(crate) fn write_block(
     ensures block { (those : List Row) → rows.items ≡ map in_chunks those → IfOk result (λ block. block ≡ block_text (record { ulid = ulid.now; hour = hour; rows = those })) }
     ensures fits { (those : List Row) → rows.items ≡ map in_chunks those → IfOk result (λ _. FitsIndex (index_rows those)) }
     ensures few { IfOk result (λ block. length block.chunks ≤ 2 ^ 32) }
-    ensures large { (those : List Row) → rows.items ≡ map in_chunks those → result ≡ Err WriteFault.TooLarge → FitsIndex (index_rows those) → 2 ^ 32 < length (files_of (samples_of_rows those)) }
+    ensures large { (those : List Row) → rows.items ≡ map in_chunks those → result ≡ Err WriteFault.TooLarge →
+        FitsIndex (index_rows those) → 2 ^ 32 < length (files_of (samples_of_rows those)) }
 {
     let Columns {
         labels,
@@ -202,7 +206,7 @@ pub(crate) fn write_block(
     let Placed { files, metas } = place_chunks(alloc, chunks)?;
     let index_rows = index_rows_of(alloc, labels, metas)?;
     let index = write_numbered_index(alloc, &index_rows)?;
-    // for the proof, which learns by this that the counts did not stay at the greatest
+    // for the proof: the counts did not saturate
     few_chunks();
     let tombstones = tombstones_of(alloc, index.ids.as_slice(), &hidden)?;
     let description = Meta {

@@ -30,39 +30,40 @@ use Rattle.block_read.specs.declared.rows.BlockRows.{BlockRows}
 abbrev pub hour_last : ℤ → ℤ
 hour_last k = hour_start (k +ℤ pos 1) -ℤ pos 1
 
--- the most bytes of a chunk file
+-- the limit of the length of a chunk file in bytes
 abbrev pub file_limit : ℕ
 file_limit = 536870912
 
--- the chunks of some rows, whose samples these are: each row's samples cut by 120
+-- the chunks of rows with these samples: the samples of each row, cut by 120
 abbrev pub chunks_of_rows : List (List Sample) → List (List Chunk)
 chunks_of_rows samples = map chunks_of samples
 
--- the chunk files of some rows, whose samples these are
+-- the chunk files of rows with these samples
 abbrev pub files_of : List (List Sample) → List Text
 files_of samples = chunk_files file_limit (all_texts (chunks_of_rows samples))
 
--- a chunk as the index names it: its first time, its last time, and its reference
+-- the entry of a chunk in the index: its first time, its last time and its reference
 abbrev pub meta_of : Chunk × ℕ → ChunkMeta
 meta_of x = record { min_time = x.0.min_time; max_time = x.0.max_time; reference = x.1 }
 
--- the chunks of each row as the index names them, with the references that the chunk files give them
+-- the entries of the chunks of each row in the index, with their references in the chunk files
 unfoldable pub metas_of : List (List Sample) → List (List ChunkMeta)
 metas_of samples =
     map (λ (x : List Chunk × List ℕ). map meta_of (zip x.0 x.1)) (zip (chunks_of_rows samples) (references file_limit (texts (chunks_of_rows samples))))
 
+-- the samples of each row
 abbrev pub samples_of_rows : List BlockRow → List (List Sample)
 samples_of_rows rows = map (λ (r : BlockRow). r.samples) rows
 
--- The rows of the index: the labels of each row, and its chunks.
+-- The rows of the index: the labels of each row and the entries of its chunks.
 unfoldable pub index_rows : List BlockRow → List IndexRow
 index_rows rows = map (λ (x : BlockRow × List ChunkMeta). record { labels = x.0.labels; chunks = x.1 }) (zip rows (metas_of (samples_of_rows rows)))
 
--- The tombstones: the hidden runs of each row, in order, with the row's series id.
+-- The tombstones: the hidden runs of each row in order, with the id of its series.
 unfoldable pub tombstones_of : List ℕ → List (List Run) → List Tombstone
 tombstones_of ids hidden = flat_map (λ (x : ℕ × List Run). map (λ (r : Run). record { series = x.0; run = r }) x.1) (zip ids hidden)
 
--- What meta.json says: the hour, and how many samples, series and chunks there are.
+-- The contents of meta.json: the name, the hour, and the numbers of samples, series and chunks.
 abbrev pub description : BlockRows → Meta
 description b = record {
   ulid = b.ulid;
@@ -73,7 +74,7 @@ description b = record {
   chunks = length (all_texts (chunks_of_rows (samples_of_rows b.rows)));
 }
 
--- The text of the block of these rows.
+-- The parts of the block of rows.
 unfoldable pub block_text : BlockRows → Block
 block_text b = record {
   index = index_text (index_rows b.rows);
@@ -82,14 +83,14 @@ block_text b = record {
   meta = meta_text (description b);
 }
 
--- the run has a time, and all its times are in the hour
+-- the run is not empty and lies in the hour
 pub record IsWithin (k : ℤ) (r : Run) : Type 0 where
   pub some : r.min_time ≤ℤ r.max_time
   pub first : hour_start k ≤ℤ r.min_time
   pub last : r.max_time ≤ℤ hour_last k
 
--- What a row of an hour is: a label set, samples in the order of their times, all in the hour and at least one, and hidden runs in the hour that
--- stand apart.
+-- A row of an hour has a label set, at least one sample, samples of the hour in the order of their times, and hidden runs in the hour with
+-- a gap between any two.
 pub record IsRowOf (k : ℤ) (row : BlockRow) : Type 0 where
   pub labels : IsLabelSet row.labels
   pub some : 0 < length row.samples
@@ -99,8 +100,8 @@ pub record IsRowOf (k : ℤ) (row : BlockRow) : Type 0 where
   pub apart : AreApart row.hidden
   pub hidden_within : All (IsWithin k) row.hidden
 
--- The parts are the block of these rows: of an hour that is no edge, with a row at least, in the order of label sets, within the limits of an index
--- and of 2^32 chunk files.
+-- The parts are the block of these rows: at least one, of an hour that is no edge, in the order of label sets, within the limits of an
+-- index and of 2^32 chunk files.
 pub record IsBlockOf (block : Block) (b : BlockRows) : Type 0 where
   pub ulid : IsUlid b.ulid
   pub whole : IsEdge b.hour → ⊥
@@ -111,15 +112,15 @@ pub record IsBlockOf (block : Block) (b : BlockRows) : Type 0 where
   pub few_files : length block.chunks ≤ 2 ^ 32
   pub text : block ≡ block_text b
 
--- ---- what the parts are found to be, one after the other
+-- ---- the parts, one after the other
 
--- samples of a series: at least one, in the order of their times
+-- the samples of a series: at least one, in the order of their times
 pub record IsColumn (samples : List Sample) : Type 0 where
   pub some : 0 < length samples
   pub rises : Rises samples
   pub fit : All IsFit samples
 
--- The chunk files are the text of these samples, a list for each row of the index, with the references and the times that the index gives.
+-- The chunk files are the text of these samples, a list for each row of the index, with the references and times in the index.
 pub record HasSamples (files : List Text) (rows : List IndexRow) (samples : List (List Sample)) : Type 0 where
   pub each : AllByRecursion IsColumn samples
   pub files_are : files ≡ files_of samples
@@ -131,7 +132,8 @@ pub record FitsRun (r : Run) : Type 0 where
   pub min_time : FitsSigned w64 r.min_time
   pub max_time : FitsSigned w64 r.max_time
 
--- The tombstones are the text of these runs, a list for each row of the index. Those of a row have a time, ascend, and stand apart.
+-- The tombstones are the text of these runs, a list for each row of the index. No run is empty, and those of a row ascend with gaps
+-- between them.
 pub record HasHidden (tombstones : Text) (rows : List IndexRow) (hidden : List (List Run)) : Type 0 where
   pub one_each : length hidden ≡ length rows
   pub apart : AllByRecursion AreApart hidden

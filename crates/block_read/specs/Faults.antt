@@ -1,4 +1,4 @@
--- Which fault a fault of a part is.
+-- The error for an error of a crate below.
 use Rattle.block_index.specs.declared.fault.ReadFault.{ReadFault}
 use Rattle.block_index.specs.declared.fault.ReadFault.TheVariants as read
 use Rattle.head_column.specs.declared.chunk.ChunkFault.{ChunkFault}
@@ -12,7 +12,7 @@ use Rattle.block_read.specs.declared.fault.BlockFault.TheVariants as block
 use Rattle.block_read.specs.declared.fault.PartFault.{PartFault}
 use Rattle.block_read.specs.declared.fault.PartFault.TheVariants as part
 
--- a fault of the index, unless memory ran out
+-- the error for one of the index
 abbrev pub of_index : ReadFault → BlockFault
 of_index read.BadMagic = block.Index read.BadMagic
 of_index read.BadVersion = block.Index read.BadVersion
@@ -22,14 +22,17 @@ of_index read.BadSection = block.Index read.BadSection
 of_index read.NotCanonical = block.Index read.NotCanonical
 of_index read.Memory = block.Memory
 
+-- the error for one of decoding a chunk
 abbrev pub of_chunk : ChunkFault → PartFault
 of_chunk chunk.BadChunk = part.Bad
 of_chunk chunk.Memory = part.Memory
 
+-- the error for one of writing
 abbrev pub of_write : WriteFault → PartFault
 of_write write.TooLarge = part.Bad
 of_write write.Memory = part.Memory
 
+-- the error for one of the tombstones
 abbrev pub of_tombstones : TombstonesFault → PartFault
 of_tombstones tombstones.BadTombstones = part.Bad
 of_tombstones tombstones.Memory = part.Memory

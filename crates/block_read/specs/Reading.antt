@@ -1,4 +1,4 @@
--- Words of proofs and of private functions, cited by no public contract: what is read of a block, part by part.
+-- Words of private functions and of proofs: the parts of a block while it is read.
 use Rattle.std.specs.Prelude.{◌≡◌, ℕ, ℤ, pos, ◌+ℤ◌, All, IsTrue, ◌<◌, ◌%◌, ◌<ℤ◌, List, [], ◌∷◌, length, map}
 use Rattle.std.specs.List.{AllByRecursion, flat_map, zip}
 use Rattle.head_column.specs.declared.items.Sample.{Sample}
@@ -16,43 +16,43 @@ use Rattle.block_files.specs.declared.tombstones.Tombstone.{Tombstone}
 use Rattle.block_files.specs.Tombstones.{tombstones_text}
 use Rattle.block_read.specs.Blocks.{FitsRun, IsWithin, chunks_of_rows, file_limit, meta_of, tombstones_of}
 
--- at the place that each of these names stands the chunk of the samples beside it
+-- the chunks of these lists of samples are at the references of these entries
 abbrev pub AreThere : List Text → List ChunkMeta → List (List Sample) → Type 0
 AreThere files [] [] = Unit {0}
 AreThere files [] (p ∷ ps) = ⊥
 AreThere files (m ∷ ms) [] = ⊥
 AreThere files (m ∷ ms) (p ∷ ps) = StandsAt files m.reference (chunk_text p) × AreThere files ms ps
 
--- a chunk's samples may follow these, which are those of full chunks and have earlier times
+-- a chunk with the samples `part` can follow the samples `before`, which fill chunks and have earlier times
 pub record MayFollow (before part : List Sample) : Type 0 where
   pub full : length before % chunk_samples ≡ 0
   pub later : 0 < length before → last_time before <ℤ first_time part
 
--- a row's chunks as the index names them, behind the rows before it
+-- the entries of the chunks of a row in the index, after the rows `before`
 abbrev pub row_metas : List (List Text) → List Sample → List ChunkMeta
 row_metas before samples = map meta_of (zip (chunks_of samples) (row_references file_limit before (row_texts (chunks_of samples))))
 
--- the chunk files of these rows of data
+-- the chunk files of rows with these data of chunks
 abbrev pub files_with : List (List Text) → List Text
 files_with rows = chunk_files file_limit (flat_map (λ r. r) rows)
 
--- these runs as tombstones of the series
+-- the tombstones of a series with these runs
 abbrev pub entries_of : ℕ → List Run → List Tombstone
 entries_of id runs = map (λ (r : Run). record { series = id; run = r }) runs
 
--- the first of the tombstones, if there are any, is one of another series
+-- the first tombstone, if there is one, is of another series
 abbrev pub BeginsOther : ℕ → List Tombstone → Type 0
 BeginsOther id [] = Unit {0}
 BeginsOther id (t ∷ ts) = t.series ≡ id → ⊥
 
--- The tombstones are the text of these runs, a list for each id. Those of an id have a time, ascend, and stand apart.
+-- The tombstones are the text of these runs, a list for each id. No run is empty, and those of an id ascend with gaps between them.
 pub record HaveRuns (tombstones : Text) (ids : List ℕ) (hidden : List (List Run)) : Type 0 where
   pub one_each : length hidden ≡ length ids
   pub apart : AllByRecursion AreApart hidden
   pub fit : AllByRecursion (All FitsRun) hidden
   pub text : tombstones ≡ tombstones_text (tombstones_of ids hidden)
 
--- what meta.json says of the samples of some rows
+-- the contents of meta.json for rows with these samples
 abbrev pub summary : Text → ℤ → List (List Sample) → Meta
 summary ulid hour samples = record {
   ulid = ulid;
@@ -63,15 +63,15 @@ summary ulid hour samples = record {
   chunks = length (all_texts (chunks_of_rows samples));
 }
 
--- the samples are of the hour
+-- all samples are in the hour
 abbrev pub AreOfHour : ℤ → List Sample → Type 0
 AreOfHour hour samples = All (λ (s : Sample). IsTrue (is_in_hour hour s.time)) samples
 
--- the runs have times, all of the hour
+-- all runs are not empty and lie in the hour
 abbrev pub AreWithin : ℤ → List Run → Type 0
 AreWithin hour runs = All (IsWithin hour) runs
 
--- The text is the meta.json of a block with this name, and this hour, which is no edge and has all the samples and runs.
+-- The text is the meta.json of a block with this name and this hour, which is no edge and has all samples and runs.
 pub record HasMeta (text : Text) (samples : List (List Sample)) (hidden : List (List Run)) (ulid : Text) (hour : ℤ) : Type 0 where
   pub is_ulid : IsUlid ulid
   pub whole : IsEdge hour → ⊥

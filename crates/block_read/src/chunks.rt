@@ -1,4 +1,4 @@
-//! The chunks of a row, read.
+//! Reading the chunks of a row.
 
 ghost use Rattle.std.specs.Prelude.{◌≡◌, ◌<◌, List, length, Err, IfOk, IsTrue};
 ghost use Rattle.head_column.specs.declared.items.Sample.{Sample as Entry};
@@ -28,12 +28,14 @@ pub(crate) struct ReadRow {
     pub(crate) chunks: Vec<Chunk>,
 }
 
+// Returns the time of a sample.
 fn time_of(sample: &Sample) -> i64
     ensures { result ≡ sample.now.time }
 {
     sample.time
 }
 
+// Returns the time of the first sample.
 fn first_time_of(samples: &[Sample]) -> i64
     requires { 0 < length samples.now }
     ensures { result ≡ first_time samples.now }
@@ -41,6 +43,7 @@ fn first_time_of(samples: &[Sample]) -> i64
     time_of(&samples[0])
 }
 
+// Returns the time of the last sample.
 fn last_time_of(samples: &[Sample]) -> i64
     requires { 0 < length samples.now }
     ensures { result ≡ last_time samples.now }
@@ -48,7 +51,7 @@ fn last_time_of(samples: &[Sample]) -> i64
     time_of(&samples[samples.len() - 1])
 }
 
-// The chunk at a reference.
+// Reads the chunk at a reference.
 fn read_chunk(alloc: Global, files: &[Items<u8>], reference: u64) -> Result<ReadChunk, PartFault>
     ensures found { IfOk result (λ read. IsChunk read.samples.items) }
     ensures chunk { IfOk result (λ read. read.chunk ≡ chunk_of read.samples.items) }
@@ -70,7 +73,7 @@ fn read_chunk(alloc: Global, files: &[Items<u8>], reference: u64) -> Result<Read
     Ok(ReadChunk { samples, chunk })
 }
 
-// Whether the samples of a chunk may follow these, which are those of full chunks and have earlier times.
+// Returns whether a chunk with the samples `part` can follow the samples `before`: these fill chunks and have earlier times.
 fn may_follow(before: &[Sample], part: &[Sample]) -> bool
     requires { 0 < length part.now }
     ensures sound { IsTrue result → MayFollow before.now part.now }
@@ -82,7 +85,7 @@ fn may_follow(before: &[Sample], part: &[Sample]) -> bool
     before.len() % CHUNK_SAMPLES == 0 && last_time_of(before) < first_time_of(part)
 }
 
-// The chunks that an index row names.
+// Reads the chunks of an index row, and joins their samples.
 pub(crate) fn read_row(
     alloc: Global,
     files: &[Items<u8>],

@@ -1,4 +1,4 @@
-//! What a block says of itself, read.
+//! Reading meta.json.
 
 ghost use Rattle.std.specs.Prelude.{◌≡◌, ◌<◌, ◌^◌, ℤ, pos, ◌+ℤ◌, List, length, Err, IfOk, IsTrue};
 ghost use Rattle.std.specs.List.{AllByRecursion, flat_map};
@@ -16,16 +16,16 @@ use head_column::{CHUNK_SAMPLES, Hour, Run, Sample};
 use hw_bytes::Items;
 use std::alloc::Global;
 
-// The times of an hour that is no edge.
+// The times of an hour that is no edge, in milliseconds.
 #[derive(Clone, Copy, Debug)]
 struct Span {
-    // The first of them.
+    // the first one
     start: i64,
-    // The first one past them.
+    // the first one after the hour
     end: i64,
 }
 
-// The times of an hour.
+// Returns the times of an hour.
 fn span_of(hour: Hour) -> Span
     requires { IsEdge hour → ⊥ }
     ensures start { result.start ≡ hour_start hour }
@@ -38,10 +38,10 @@ fn span_of(hour: Hour) -> Span
     }
 }
 
-// The length of an hour in milliseconds.
+// the length of an hour in milliseconds
 const HOUR_LENGTH: i64 = 3_600_000;
 
-// Whether the hour has the sample.
+// Returns whether a sample is in the hour.
 fn has_sample(span: Span, sample: &Sample) -> bool
     ensures sound { (hour : ℤ) → span.start ≡ hour_start hour → span.end ≡ hour_start (hour +ℤ pos 1) → IsTrue result → IsTrue (is_in_hour hour sample.now.time) }
     ensures complete { (hour : ℤ) → span.start ≡ hour_start hour → span.end ≡ hour_start (hour +ℤ pos 1) → IsTrue (is_in_hour hour sample.now.time) → IsTrue result }
@@ -49,7 +49,7 @@ fn has_sample(span: Span, sample: &Sample) -> bool
     span.start <= sample.time && sample.time < span.end
 }
 
-// Whether the run has times, all of the hour.
+// Returns whether a run is not empty and lies in the hour.
 fn has_run(span: Span, run: &Run) -> bool
     ensures sound { (hour : ℤ) → span.start ≡ hour_start hour → span.end ≡ hour_start (hour +ℤ pos 1) → IsTrue result → IsWithin hour run.now }
     ensures complete { (hour : ℤ) → span.start ≡ hour_start hour → span.end ≡ hour_start (hour +ℤ pos 1) → IsWithin hour run.now → IsTrue result }
@@ -63,7 +63,7 @@ fn has_run(span: Span, run: &Run) -> bool
     run.max_time < span.end
 }
 
-// Whether the hour has the samples.
+// Returns whether all samples are in the hour.
 fn has_samples(span: Span, samples: &[Sample]) -> bool
     ensures sound { (hour : ℤ) → span.start ≡ hour_start hour → span.end ≡ hour_start (hour +ℤ pos 1) → IsTrue result → AreOfHour hour samples.now }
     ensures complete { (hour : ℤ) → span.start ≡ hour_start hour → span.end ≡ hour_start (hour +ℤ pos 1) → AreOfHour hour samples.now → IsTrue result }
@@ -76,7 +76,7 @@ fn has_samples(span: Span, samples: &[Sample]) -> bool
     true
 }
 
-// Whether the hour has the runs.
+// Returns whether all runs are not empty and lie in the hour.
 fn has_runs(span: Span, runs: &[Run]) -> bool
     ensures sound { (hour : ℤ) → span.start ≡ hour_start hour → span.end ≡ hour_start (hour +ℤ pos 1) → IsTrue result → AreWithin hour runs.now }
     ensures complete { (hour : ℤ) → span.start ≡ hour_start hour → span.end ≡ hour_start (hour +ℤ pos 1) → AreWithin hour runs.now → IsTrue result }
@@ -89,7 +89,7 @@ fn has_runs(span: Span, runs: &[Run]) -> bool
     true
 }
 
-// Whether the hour has the samples and runs of all rows.
+// Returns whether the samples and runs of all rows lie in the hour.
 fn has_rows(span: Span, samples: &[Items<Sample>], hidden: &[Items<Run>]) -> bool
     ensures sound { (hour : ℤ) → span.start ≡ hour_start hour → span.end ≡ hour_start (hour +ℤ pos 1) → IsTrue result →
         AllByRecursion (AreOfHour hour) samples.now × AllByRecursion (AreWithin hour) hidden.now }
@@ -109,7 +109,7 @@ fn has_rows(span: Span, samples: &[Items<Sample>], hidden: &[Items<Run>]) -> boo
     true
 }
 
-// How many samples there are, and how many chunks. A count past 64 bits, which no block has, stays at the greatest.
+// Counts the samples and the chunks. A count that exceeds 64 bits, which no block has, saturates.
 fn counts_of(samples: &[Items<Sample>]) -> (u64, u64)
     ensures samples { result.0 ≡ u64_saturate (length (flat_map (λ s. s) samples.now)) }
     ensures chunks { result.1 ≡ u64_saturate (length (all_texts (chunks_of_rows samples.now))) }
@@ -124,7 +124,7 @@ fn counts_of(samples: &[Items<Sample>]) -> (u64, u64)
     (count, chunks)
 }
 
-// The hour of the first sample.
+// Returns the hour of the first sample.
 fn hour_of(samples: &[Items<Sample>]) -> Hour
     requires some { 0 < length samples.now }
     requires each { AllByRecursion IsColumn samples.now }
@@ -134,7 +134,7 @@ fn hour_of(samples: &[Items<Sample>]) -> Hour
     Hour::of(row[0].time)
 }
 
-// The text of the meta.json of these samples.
+// Writes the meta.json of a block with these samples.
 fn describe(
     alloc: Global,
     ulid: Ulid,
@@ -161,7 +161,7 @@ fn describe(
     Ok(text)
 }
 
-// The name and the hour of a block, of whose rows these are the samples and the runs.
+// Reads the name and the hour of a block whose rows have these samples and runs.
 pub(crate) fn read_meta(
     alloc: Global,
     bytes: &[u8],

@@ -1,4 +1,4 @@
-//! Why a block was not read.
+//! The errors of reading a block.
 
 use block_files::TombstonesFault;
 use block_index::ReadFault;
@@ -8,27 +8,27 @@ use std::alloc::{AllocError, AllocFailed};
 use std::error::Error;
 use std::fmt;
 
-/// Why the parts of a block were not read: the first of these that holds. `Memory` may come before any.
+/// The error of reading a block: the first of these that applies, except that `Memory` can come before any.
 #[derive(Clone, Copy, Debug, PartialEq, Eq)]
 pub enum BlockFault {
-    /// The index is none.
+    /// The index is invalid, with this fault.
     Index(ReadFault),
-    /// The chunk files are not the text of any samples, cut by 120, with the references and the times that the index gives.
+    /// The chunk files are not the text of samples in chunks of 120 with the references and times in the index.
     BadChunks,
-    /// The tombstones are not the text of any runs of the index's series that stand apart.
+    /// The tombstones are not the text of runs of the series in the index, with a gap between any two of a series.
     BadTombstones,
-    /// meta.json is not the text for these rows, some ULID, and an hour that is no edge and has all samples and runs.
+    /// The meta.json is not the text for these rows with a ULID and an hour that is no edge and has all samples and runs.
     BadMeta,
-    /// Memory ran out.
+    /// Out of memory.
     Memory,
 }
 
-// Why a part of a block was not read.
+// The error of reading one part of a block.
 #[derive(Clone, Copy, Debug, PartialEq, Eq)]
 pub(crate) enum PartFault {
-    // The bytes are not what would be written.
+    // the bytes are not a text of this part
     Bad,
-    // Memory ran out.
+    // out of memory
     Memory,
 }
 

@@ -1,4 +1,4 @@
-//! The hidden runs of a block, read.
+//! Reading the hidden runs of a block.
 
 ghost use Rattle.std.specs.Prelude.{◌≡◌, ◌<◌, ◌++◌, ◌∷◌, [], List, Err, IfOk, IsTrue};
 ghost use Rattle.head_column.specs.declared.items.Run.{Run as HiddenRun};
@@ -12,7 +12,7 @@ use head_column::Run;
 use hw_bytes::Items;
 use std::alloc::Global;
 
-// Whether a time that neither has lies between the run and the first of these later ones, if there are any.
+// Returns whether there is a gap between the run and the first of the later ones, if there are any.
 fn is_before(run: &Run, later: &[Run]) -> bool
     ensures sound { IsTrue result → BeginPast run.now.max_time later.now }
     ensures complete { BeginPast run.now.max_time later.now → IsTrue result }
@@ -25,7 +25,7 @@ fn is_before(run: &Run, later: &[Run]) -> bool
     max_time < min_time && max_time + 1 < min_time
 }
 
-// Whether the run has a time.
+// Returns whether the run is not empty.
 fn is_run(run: &Run) -> bool
     ensures sound { IsTrue result → IsRun run.now }
     ensures complete { IsRun run.now → IsTrue result }
@@ -33,7 +33,7 @@ fn is_run(run: &Run) -> bool
     run.min_time <= run.max_time
 }
 
-// Whether no run is empty, and each stands apart from the next.
+// Returns whether no run is empty, and there is a gap between any two of them.
 fn are_apart(runs: &[Run]) -> bool
     ensures sound { IsTrue result → AreApart runs.now }
     ensures complete { AreApart runs.now → IsTrue result }
@@ -50,7 +50,7 @@ fn are_apart(runs: &[Run]) -> bool
     true
 }
 
-// The runs at the front that are of this series, and the tombstones behind them.
+// Returns the runs of the first tombstones that are of this series, and the tombstones after them.
 fn front_runs(
     alloc: Global,
     id: u32,
@@ -72,7 +72,7 @@ fn front_runs(
     Ok((runs, rest))
 }
 
-// The hidden runs of a block, a list for each series' id.
+// Reads the hidden runs of a block, a list for each id of a series.
 pub(crate) fn read_hidden(
     alloc: Global,
     bytes: &[u8],

@@ -1,4 +1,4 @@
-//! The rows of a block, out of their parts.
+//! Joining the parts of rows.
 
 ghost use Rattle.std.specs.Prelude.{◌≡◌, length, map, Err, IfOk};
 ghost use Rattle.block_index.specs.declared.row.IndexRow.{IndexRow as Named};
@@ -12,7 +12,7 @@ use head_column::{Run, Sample};
 use hw_bytes::Items;
 use std::alloc::Global;
 
-// The rows with these labels, samples and hidden runs.
+// Makes rows of their labels, samples and hidden runs.
 pub(crate) fn join_rows(
     alloc: Global,
     index: Vec<IndexRow>,

@@ -1,4 +1,4 @@
-//! A block: what its parts are the text of, and reading it back.
+//! Reading a block: the rows of which its parts are the text.
 #![tactic(auto)]
 
 mod block;

@@ -1,4 +1,4 @@
-//! A block, read back.
+//! Reading a whole block.
 
 ghost use Rattle.std.specs.Prelude.{◌≡◌, List, Err, IfErr, IfOk};
 ghost use Rattle.head_column.specs.declared.items.Run.{Run as HiddenRun};
@@ -22,18 +22,17 @@ use block_index::{few_chunks, read_numbered_index};
 use hw_bytes::Items;
 use std::alloc::Global;
 
-/// The rows of which these parts are the block, with its ULID and its hour. The parts are judged in the order of the faults: `Index` where
-/// `read_index` refuses the index; `BadChunks` unless the chunk files are the text of some samples, cut by 120, with the references and
-/// times that the index gives; `BadTombstones` unless the tombstones are the text of runs of the index's series, each list of which
-/// ascends and stands apart; `BadMeta` unless meta.json is the text for these rows, some ULID, and an hour that is no edge and has all the
-/// samples and runs.
+/// Reads a block, and returns its ULID, its hour and its rows. The parts are checked in the order of the errors: `Index` if `read_index`
+/// returns an error; `BadChunks` unless the chunk files are the text of samples in chunks of 120 with the references and times in the
+/// index; `BadTombstones` unless the tombstones are the text of runs of the series in the index, ascending with a gap between any two of
+/// a series; `BadMeta` unless meta.json is the text for these rows with a ULID and an hour that is no edge and has all samples and runs.
 pub fn read_block(alloc: Global, block: &Block) -> Result<BlockRows, BlockFault>
-    // Rows come only of their own block, and no block is refused.
+    // Rows are read only from their own block, and every block is read unless memory runs out.
     ensures found { IfOk result (λ rows. IsBlockOf block.now rows) }
     ensures only { (rows : Rows) → IsBlockOf block.now rows → IfOk result (λ read. read ≡ rows) }
     ensures refuses { (rows : Rows) → IsBlockOf block.now rows → IfErr result (λ fault. fault ≡ BlockFault.Memory) }
 
-    // Which fault it is. Those of the index's header and of its table of contents are told whatever memory there is.
+    // The error. That of the header or the table of contents of the index does not depend on memory.
     ensures front { (fault : ReadFault) → front_of block.now.index ≡ Err fault → result ≡ Err (of_index fault) }
     ensures bad_index { (fault : ReadFault) → result ≡ Err (BlockFault.Index fault) → Answers block.now.index fault × (fault ≡ ReadFault.Memory → ⊥) }
     ensures bad_chunks { result ≡ Err BlockFault.BadChunks →
@@ -56,7 +55,7 @@ pub fn read_block(alloc: Global, block: &Block) -> Result<BlockRows, BlockFault>
         Err(PartFault::Bad) => return Err(BlockFault::BadTombstones),
         Err(PartFault::Memory) => return Err(BlockFault::Memory),
     };
-    // for the proof, which learns by this that the chunks and the samples can be counted
+    // for the proof: the counts of chunks and of samples have 64 bits
     few_chunks();
     let (ulid, hour) = match read_meta(alloc, block.meta.as_slice(), &samples, &hidden) {
         Ok(meta) => meta,

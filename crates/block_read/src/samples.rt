@@ -1,4 +1,4 @@
-//! The samples of a block, read.
+//! Reading the samples of a block.
 
 ghost use Rattle.std.specs.Prelude.{◌≡◌, ◌≤◌, ◌^◌, ◌++◌, ◌∷◌, [], List, length, map, Err, IfOk, IsTrue};
 ghost use Rattle.std.specs.List.{zip};
@@ -17,7 +17,7 @@ use head_column::{Chunk, Sample};
 use hw_bytes::Items;
 use std::alloc::Global;
 
-// Whether the index names the chunk so.
+// Returns whether the index has the times of the chunk and this reference.
 fn is_named(meta: &ChunkMeta, chunk: &Chunk, reference: u64) -> bool
     ensures sound { IsTrue result → meta.now ≡ meta_of (chunk.now, reference) }
     ensures complete { meta.now ≡ meta_of (chunk.now, reference) → IsTrue result }
@@ -27,7 +27,7 @@ fn is_named(meta: &ChunkMeta, chunk: &Chunk, reference: u64) -> bool
         && meta.reference == reference
 }
 
-// Whether the index names the chunks so.
+// Returns whether the index has the times of the chunks and these references.
 fn are_named(metas: &[ChunkMeta], chunks: &[Chunk], references: &[u64]) -> bool
     requires { length references.now ≡ length chunks.now }
     ensures sound { IsTrue result → metas.now ≡ map meta_of (zip chunks.now references.now) }
@@ -44,7 +44,7 @@ fn are_named(metas: &[ChunkMeta], chunks: &[Chunk], references: &[u64]) -> bool
     true
 }
 
-// Whether these files are those.
+// Returns whether two lists of files are equal.
 fn are_same(files: &[Items<u8>], others: &[Items<u8>]) -> bool
     ensures sound { IsTrue result → files.now ≡ others.now }
     ensures complete { files.now ≡ others.now → IsTrue result }
@@ -60,7 +60,7 @@ fn are_same(files: &[Items<u8>], others: &[Items<u8>]) -> bool
     true
 }
 
-// The samples of the chunks that an index row names, written again behind the rows before it.
+// Reads the samples of an index row, and appends their chunks to `again`, which gives the references that they must have.
 fn take_row(
     alloc: Global,
     files: &[Items<u8>],
@@ -86,7 +86,7 @@ fn take_row(
     Ok(read.samples)
 }
 
-// The samples of a block, a list for each row of its index.
+// Reads the samples of a block, a list for each row of its index.
 pub(crate) fn read_samples(
     alloc: Global,
     files: &[Items<u8>],
