@@ -9,7 +9,7 @@ use hw_bytes::Items;
 use std::alloc::{AllocError, Global};
 use std::process::Abort;
 use std::test::Fail;
-use wal_log::{Damage, Input, LogFault, Place, Segment};
+use wal_log::{Damage, Input, LogFault, LogWriter, Place, Segment};
 use wal_page::FaultKind;
 
 // The offset of the second record.
@@ -48,27 +48,32 @@ fn check_replay(rt: &impl Abort, alloc: Global, taken: Vec<u8>) -> Result<(), Fa
     Ok(())
 }
 
+// Begins a segment on the next device. Returns why it does not begin, and how many bytes that device took.
+fn refusal(log: &mut LogWriter<Device>, next: Device) -> Option<(LogFault, usize)> {
+    match log.next_segment(next) {
+        Ok(_left) => None,
+        Err((next, fault)) => Some((fault, next.taken.len())),
+    }
+}
+
+// The bytes, as digits.
+fn digits(alloc: Global, bytes: &[u8]) -> Result<String, AllocError> {
+    let mut text = String::new(alloc);
+    for byte in bytes {
+        write!(text, "{byte:02X}")?;
+    }
+    Ok(text)
+}
+
 // Looks at what a failed append left: the head, the bytes that the device took, and a writer that goes on failing.
 fn check_left(rt: &impl Abort, alloc: Global, live: Live<Device>, room: usize) -> Result<(), Fail> {
-    assert_eq!(rt;
-        views(alloc, live.head())?.as_str(),
-        "0 0 0 0 Some(1) None 0"
-    );
+    let shown = views(alloc, live.head())?;
+    assert_eq!(rt; shown.as_str(), "0 0 0 0 Some(1) None 0");
     let (_head, mut log) = live.into_inner();
-    match log.next_segment(Device::new(alloc, usize::MAX)) {
-        Ok(_) => assert!(rt; false, "a failed writer went on"),
-        Err((next, fault)) => {
-            assert_eq!(rt; fault, LogFault::Failed);
-            assert_eq!(rt; next.taken.len(), 0);
-        }
-    }
+    let refused = refusal(&mut log, Device::new(alloc, usize::MAX));
+    assert_eq!(rt; refused, Some((LogFault::Failed, 0)));
     let taken = log.into_inner().taken;
-    let wanted = first_bytes(alloc, room)?;
-    let mut found = String::new(alloc);
-    for byte in &taken {
-        write!(found, "{byte:02X}")?;
-    }
-    assert_eq!(rt; found, wanted);
+    assert_eq!(rt; digits(alloc, &taken)?, first_bytes(alloc, room)?);
     check_replay(rt, alloc, taken)
 }
 
