@@ -1,8 +1,12 @@
 //! The law of the whole.
 
-ghost use Rattle.std.specs.Prelude.{◌≡◌, ℤ, Option};
+ghost use Rattle.std.specs.Prelude.{◌≡◌, ℤ, List, Option};
+ghost use Rattle.wal_record.specs.Validity.{least_time};
 ghost use Rattle.wal_log.specs.Inputs.{Files};
 ghost use Rattle.wal_log.specs.declared.reading.Damage.{Damage as LogDamage};
+ghost use Rattle.wal_log.specs.declared.reading.Placed.{Placed as PlacedRecord};
+ghost use Rattle.wal_log.specs.Log.{IsReading, contents};
+ghost use Rattle.head_core.specs.Taken.{taken_of};
 ghost use Rattle.head_core.specs.Content.{AreAlike, Content};
 ghost use Rattle.head_core.specs.Replays.{IsReplayed};
 ghost use Rattle.block_text.specs.Sums.{Text};
@@ -14,22 +18,33 @@ ghost use Rattle.block_cut.specs.Rows.{rows_of};
 use block_cut::one_block;
 use head_core::one_content;
 use wal_log::one_reading;
+use wal_record::valid_records;
 
 /// For every checkpoint, list of segments and number of workers, where no memory and no thread is refused, the head that `replay` gives and
 /// every byte of each block cut from it are those defined by the log's records read one after another, however the work was dealt.
 ///
-/// `replay` ensures `IsReplayed` of its head, which speaks of the log's files alone. A log has one such head, up to what the views of a head
-/// show, and one damage (`head`): those of `replay_serial`. What `cut` ensures of a block of such a head makes it the block of the log
-/// (`block`), and there is one such block for an hour and a name (`one`).
+/// `replay` ensures `IsReplayed` of its head, which speaks of the log's files and of the least valid time alone. With each least valid time
+/// a log has one such head, up to what the views of a head show, and one damage (`head`): those of `replay_serial_from`. What `cut` ensures
+/// of a block of such a head makes it the block of the log (`block`), and there is one such block for an hour and a name (`one`).
 pub fn however_dealt()
-    ensures head { (log : Files) (damage other : Option LogDamage) (a b : Content) → IsReplayed log damage a → IsReplayed log other b → (damage ≡ other) × AreAlike a b }
-    ensures block { (log : Files) (hour : ℤ) (ulid : Text) (damage : Option LogDamage) (content : Content) (block : Parts) →
-        IsReplayed log damage content → IsBlockOf block (record { ulid = ulid; hour = hour; rows = rows_of hour content }) →
-        IsBlockOfLog log hour ulid block }
-    ensures one { (log : Files) (hour : ℤ) (ulid : Text) (a b : Parts) → IsBlockOfLog log hour ulid a → IsBlockOfLog log hour ulid b → a ≡ b }
+    ensures head { (log : Files) (m : ℤ) (damage other : Option LogDamage) (a b : Content) → IsReplayed log m damage a → IsReplayed log m other b → (damage ≡ other) × AreAlike a b }
+    ensures block { (log : Files) (m hour : ℤ) (ulid : Text) (damage : Option LogDamage) (content : Content) (block : Parts) →
+        IsReplayed log m damage content → IsBlockOf block (record { ulid = ulid; hour = hour; rows = rows_of hour content }) →
+        IsBlockOfLog log m hour ulid block }
+    ensures one { (log : Files) (m hour : ℤ) (ulid : Text) (a b : Parts) → IsBlockOfLog log m hour ulid a → IsBlockOfLog log m hour ulid b → a ≡ b }
 {
     // laws that the proof uses
     one_reading();
     one_content();
     one_block();
+}
+
+/// Proves that the least time of 64 bits is no limit: with it as least valid time, all of a log's records are taken, and nothing of them is
+/// expired.
+pub fn no_limit()
+    ensures { (log : Files) (records : List PlacedRecord) (damage : Option LogDamage) → IsReading log records damage →
+        taken_of least_time (contents records) ≡ record { kept = contents records; expired_samples = 0; expired_stones = 0 } }
+{
+    // a law that the proof uses
+    valid_records();
 }

@@ -54,7 +54,7 @@ fn counts(alloc: Global, samples: u64) -> Result<String, AllocError> {
     format!(in alloc;
         "series_records 1\nsample_records {samples}\nstone_records 0\nskipped_records 0\n\
         series_entries 1\nseries 1\naccepted {samples}\nstale 0\nunknown 0\nhiding 0\nempty_stones 0\nunknown_stones 0\n\
-        damage none\n"
+        expired_samples 0\nexpired_stones 0\ndamage none\n"
     )
 }
 
@@ -63,6 +63,7 @@ const REPLAY: Asked<'static> = Asked::OfLog(Request::Replay {
     options: Options {
         workers: 4,
         round_pages: 256,
+        min_valid: i64::MIN,
     },
 });
 

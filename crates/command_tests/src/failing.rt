@@ -36,7 +36,7 @@ fn assert_run<R: Abort + Threads + Wait + Sync + AllocGlobal>(
     Ok(calls)
 }
 
-// The same with each of the options, where just so many calls are made.
+// Runs a case with each of the options, and checks that it makes `calls` calls.
 fn assert_calls<R: Abort + Threads + Wait + Sync + AllocGlobal>(
     rt: &R,
     case: &Case,

@@ -175,6 +175,7 @@ const REPLAY_BY_PAGES: Request<'static> = Request::Replay {
     options: Options {
         workers: 2,
         round_pages: 1,
+        min_valid: i64::MIN,
     },
 };
 
@@ -238,6 +239,7 @@ impl Progress for Told {
 const BY_THREE: Options = Options {
     workers: 3,
     round_pages: 1,
+    min_valid: i64::MIN,
 };
 
 // Each command that replays a log.

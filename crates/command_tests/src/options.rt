@@ -23,15 +23,13 @@ fn words(alloc: Global, line: &str) -> Result<Vec<String>, AllocError> {
 const SEVEN: Options = Options {
     workers: 7,
     round_pages: 300,
+    min_valid: -5,
 };
 
-fn replay(workers: usize, round_pages: usize) -> Asked<'static> {
+fn replay(options: Options) -> Asked<'static> {
     Asked::OfLog(Request::Replay {
         dir: "log",
-        options: Options {
-            workers,
-            round_pages,
-        },
+        options,
     })
 }
 
@@ -59,7 +57,12 @@ fn options_of_replay(rt: HostRuntime) -> Result<(), AllocError> {
             65_536,
         ),
     ] {
-        assert_asked(&rt, line, replay(workers, round_pages))?;
+        let options = Options {
+            workers,
+            round_pages,
+            min_valid: i64::MIN,
+        };
+        assert_asked(&rt, line, replay(options))?;
     }
     Ok(())
 }
@@ -80,7 +83,7 @@ fn options_of_each_command(rt: HostRuntime) -> Result<(), AllocError> {
         options,
     };
     for (line, wanted) in [
-        ("replay log", replay(7, 300)),
+        ("replay log", replay(options)),
         ("series log", Asked::OfLog(series)),
         (
             "ranges log",
@@ -95,7 +98,9 @@ fn options_of_each_command(rt: HostRuntime) -> Result<(), AllocError> {
             Asked::Append(AppendRequest { dir, rows, options }),
         ),
     ] {
-        let line = format!(in rt.alloc(); "prom_head {line} --workers=7 --round-pages=300")?;
+        let line = format!(in rt.alloc();
+            "prom_head {line} --workers=7 --round-pages=300 --min-valid=-5"
+        )?;
         assert_asked(&rt, &line, wanted)?;
     }
     Ok(())

@@ -18,18 +18,22 @@ pub const OPTIONS: [Options; 4] = [
     Options {
         workers: 1,
         round_pages: 256,
+        min_valid: i64::MIN,
     },
     Options {
         workers: 2,
         round_pages: 1,
+        min_valid: i64::MIN,
     },
     Options {
         workers: 7,
         round_pages: 2,
+        min_valid: i64::MIN,
     },
     Options {
         workers: 64,
         round_pages: 65_536,
+        min_valid: i64::MIN,
     },
 ];
 
@@ -37,6 +41,7 @@ pub const OPTIONS: [Options; 4] = [
 pub const ANY: Options = Options {
     workers: 4,
     round_pages: 256,
+    min_valid: i64::MIN,
 };
 
 /// What a run leaves: its status, what it prints, and what it says.
@@ -66,7 +71,7 @@ pub fn shelf_of(alloc: Global, case: &Case) -> Result<Shelf, StoreFault> {
     Ok(shelf)
 }
 
-/// The same, where a log is replayed in this way.
+/// Returns the request with these options of replay. One that replays nothing is returned unchanged.
 pub fn replayed_by(asked: Asked<'_>, options: Options) -> Asked<'_> {
     match asked {
         Asked::OfBlocks(BlockRequest::Cut(request)) => {

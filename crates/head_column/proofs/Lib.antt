@@ -4,6 +4,8 @@ pub mod OneRuns
 pub mod Rising
 pub mod Stale
 pub mod HistoryLaws
+pub mod Validity
+pub mod ValidityWorked
 pub mod TallyLaws
 pub mod HourLaws
 pub mod ReadLaws

@@ -66,7 +66,7 @@ sample_spells before s b p f = record {
   whole = refl;
 }
 
--- ---- so many were read, and the rest is there
+-- ---- some samples are read, and the rest is left
 
 -- the others of these samples are the rest of the bytes
 pub record AreLeft (before : Option ℤ) (rest : List ℕ) (xs ss : List Sample) : Type 0 where

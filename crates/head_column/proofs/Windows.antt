@@ -109,7 +109,7 @@ window k xs m n le le' p q =
     later : (i : ℕ) (d : Sample) → m + i < length xs → int_lt (get_or (drop m xs) i d).time (hour_start k) ≡ false
     later i d lt = subst (λ (s : Sample). int_lt s.time (hour_start k) ≡ false) (sym (get_or-drop m xs i d)) (p.1 (m + i) d (omega arith) lt)
 
--- the same, at the numbers and the lists that the code has
+-- the samples of an hour, by the numbers and the lists that the code has
 pub window_of : (hour k l : ℤ) (xs rest those : List Sample) (m n : ℕ) → k ≡ hour → l ≡ hour +ℤ pos 1 → rest ≡ drop m xs → those ≡ take n rest → m ≤ length xs → n ≤ length rest
     → IsPartitionPoint (λ (s : Sample). int_lt s.time (hour_start k) ≡ true) (λ (s : Sample). int_lt s.time (hour_start k) ≡ false) xs m
     → IsPartitionPoint (λ (s : Sample). int_lt s.time (hour_start l) ≡ true) (λ (s : Sample). int_lt s.time (hour_start l) ≡ false) rest n
@@ -169,7 +169,7 @@ back_of xs n m e = elim (cases_lt n (length xs)) [
   | inr le ↦ drop_all m xs (omega (arith, e, le)) ∙ sym (drop_all n xs le)
 ]
 
--- so many chunks were made, and the rest makes the others
+-- some chunks are made, and the rest of the samples makes the others
 pub record AreCut (done : List Chunk) (rest samples : List Sample) : Type 0 where
   pub rises : Rises rest
   pub whole : done ++ chunks_of rest ≡ chunks_of samples

@@ -1,6 +1,6 @@
 //! A series, built item by item.
 
-ghost use Rattle.std.specs.Prelude.{◌≡◌, ◌+◌, ◌<◌, ◌≤◌, ◌∷◌, ◌++◌, [], ℕ, All, List, IfOk, IsOk, OnErr, OnOk, filter, length};
+ghost use Rattle.std.specs.Prelude.{◌≡◌, ◌+◌, ◌<◌, ◌≤◌, ◌∷◌, ◌++◌, [], ℕ, All, List, IfOk, IsOk, OnErr, OnOk, drop as drop_of, filter, int_lt, length};
 ghost use Rattle.head_column.specs.declared.items.Item.{Item as AnItem};
 ghost use Rattle.head_column.specs.declared.items.Outcome.TheVariants.{Stale, EmptyStone};
 ghost use Rattle.head_column.specs.Histories.{IsHistoryOf, has_reached, history_after, history_outcome, latest, no_history};
@@ -9,10 +9,11 @@ ghost use Rattle.head_column.specs.Runs.{AreApart};
 ghost use Rattle.head_column.specs.Samples.{Rises};
 ghost use Rattle.head_column.specs.Hours.{is_in_hour};
 ghost use Rattle.head_column.specs.Chunks.{IsFit, chunks_of};
+ghost use Rattle.head_column.specs.Validity.{history_from, samples_from, valid_items};
 
 use crate::cutting::cut_chunks;
-use crate::runs::merge;
-use crate::times::reaches;
+use crate::runs::{cut, merge};
+use crate::times::{latest_from, reaches};
 use crate::{Chunk, Hour, Item, Outcome, Run, Sample};
 use head_deal::Builder;
 use std::alloc::{AllocError, Global};
@@ -27,6 +28,19 @@ fn fit_copy(sample: &Sample) -> Sample
         time: sample.time,
         value: sample.value,
     }
+}
+
+// Returns the number of samples before the time, by binary search.
+fn count_expired(samples: &[Sample], time: i64) -> usize
+    requires { Rises samples.now }
+    ensures within { result ≤ length samples.now }
+    ensures rest { samples_from time samples.now ≡ drop_of result samples.now }
+{
+    samples.partition_point(
+        |sample: &Sample| -> bool
+            ensures { result ≡ int_lt sample.now.time time }
+        { sample.time < time },
+    )
 }
 
 /// A series: its accepted samples, and the runs of its hidden times. Contracts see these as its history, and `spare`, a number of
@@ -140,6 +154,19 @@ impl Column {
         self.samples.reserve(items)?;
         self.hidden.reserve(items)?;
         Ok(())
+    }
+
+    /// Drops the samples and the hidden times before `min_valid`, a time in milliseconds, so that the history is that of what this least
+    /// valid time leaves of the items. Allocates nothing, and `spare` is not less than before.
+    pub fn truncate(&mut self, min_valid: i64)
+        ensures history { self.new.history ≡ history_from min_valid self.old.history }
+        ensures items { (items : List AnItem) → IsHistoryOf items self.old.history → IsHistoryOf (valid_items min_valid items) self.new.history }
+        ensures spare { self.old.spare ≤ self.new.spare }
+    {
+        let gone = count_expired(&self.samples, min_valid);
+        self.samples.drain(..gone);
+        cut(&mut self.hidden, min_valid);
+        self.latest = latest_from(self.latest, min_valid);
     }
 
     // Returns whether some sample has an equal or later time.

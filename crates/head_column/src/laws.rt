@@ -1,6 +1,6 @@
 //! Laws of the definitions.
 
-ghost use Rattle.std.specs.Prelude.{◌≡◌, ◌↔◌, ◌⊎◌, ◌∷◌, ◌++◌, [], ℤ, pos, negsuc, ◌+ℤ◌, ◌-ℤ◌, ◌≤ℤ◌, Bool, IsTrue, FitsSigned, List, Option, None};
+ghost use Rattle.std.specs.Prelude.{◌≡◌, ◌↔◌, ◌⊎◌, ◌∷◌, ◌++◌, [], ℤ, pos, negsuc, ◌+ℤ◌, ◌-ℤ◌, ◌≤ℤ◌, Bool, IsTrue, FitsSigned, List, Option, None, filter, int_le};
 ghost use Rattle.std.specs.List.{scan};
 ghost use Rattle.head_column.specs.declared.items.Item.{Item as AnItem};
 ghost use Rattle.head_column.specs.declared.items.Run.{Run as ARun};
@@ -8,11 +8,12 @@ ghost use Rattle.head_column.specs.Histories.{History, IsHistoryOf, has_reached,
 ghost use Rattle.head_column.specs.Items.{is_stale, outcome_of, outcomes_of, samples_of};
 ghost use Rattle.head_column.specs.Runs.{AreRunsOf};
 ghost use Rattle.head_column.specs.Tallies.{latest_after, latest_of, latest_outcome};
-ghost use Rattle.std.specs.Int.{w64};
+ghost use Rattle.std.specs.Int.{int_max, w64};
 ghost use Rattle.head_column.specs.declared.items.Sample.{Sample as ASample};
 ghost use Rattle.head_column.specs.Hours.{hour_start, is_in_hour, HasTime, IsEdge};
 ghost use Rattle.head_column.specs.Chunks.{ArePartsOf, IsChunk, chunk_samples, chunk_text, parts};
 ghost use Rattle.head_column.specs.Times.{greatest};
+ghost use Rattle.head_column.specs.Validity.{IsValid, history_from, item_from, latest_from, samples_from, valid_items};
 ghost use Rattle.hw_bytes.specs.Lists.{IsGreatest};
 
 /// Proves that items make just one history, the one that `history_after` makes item by item, and that the outcomes of a column
@@ -34,6 +35,19 @@ pub fn tallies_follow_items()
     ensures outcome { (items : List AnItem) (i : AnItem) → latest_outcome (latest_of items) i ≡ outcome_of items i }
     ensures column { (items : List AnItem) → scan history_after history_outcome no_history items ≡ outcomes_of items }
     ensures tally { (items : List AnItem) → scan latest_after latest_outcome None items ≡ outcomes_of items }
+{}
+
+/// Proves that what a least valid time leaves of items suffices for those that come later: one that is not expired has the outcome
+/// that it would have after all items. What is left makes the history without the samples and the hidden times before that time. A
+/// second least valid time leaves of a history what the greater of both leaves. The greatest of the times left is that of all times, or
+/// there is none.
+pub fn valid_items_suffice()
+    ensures stale { (m t : ℤ) → m ≤ℤ t → (items : List AnItem) → is_stale (valid_items m items) t ≡ is_stale items t }
+    ensures outcome { (m : ℤ) (items : List AnItem) (i : AnItem) → IsValid m i → outcome_of (valid_items m items) (item_from m i) ≡ outcome_of items i }
+    ensures samples { (m : ℤ) (items : List AnItem) → samples_of (valid_items m items) ≡ samples_from m (samples_of items) }
+    ensures history { (m : ℤ) (items : List AnItem) (h : History) → IsHistoryOf items h → IsHistoryOf (valid_items m items) (history_from m h) }
+    ensures greater { (m n : ℤ) (h : History) → history_from m (history_from n h) ≡ history_from (int_max m n) h }
+    ensures latest { (m : ℤ) (ts : List ℤ) → greatest (filter (int_le m) ts) ≡ latest_from m (greatest ts) }
 {}
 
 /// Proves that a time is in at most one hour; that the hours with a time that is an `i64` are those from -2562047788016 to

@@ -24,5 +24,6 @@ pub use hour::Hour;
 pub use items::{Item, Outcome, Run, Sample};
 pub use laws::{
     chunk_parts, columns_follow_items, greatest_time, hours, one_chunk, tallies_follow_items,
+    valid_items_suffice,
 };
 pub use tally::Tally;

@@ -1,9 +1,10 @@
-//! Merging runs of hidden times, in place.
+//! Merging and cutting runs of hidden times, in place.
 
-ghost use Rattle.std.specs.Prelude.{◌≡◌, ◌+◌, ◌<◌, ◌≤◌, ◌∷◌, ◌++◌, IsOk, OnErr, OnOk, drop, length, take, vec_len};
+ghost use Rattle.std.specs.Prelude.{◌≡◌, ◌+◌, ◌<◌, ◌≤◌, ◌∷◌, ◌++◌, IsOk, OnErr, OnOk, drop, int_lt, length, take, vec_len};
 ghost use Rattle.std.specs.Vec.{vec_capacity};
 ghost use Rattle.head_column.specs.Merging.{absorb, ends_before, span_of, with_run};
 ghost use Rattle.head_column.specs.Runs.{AreApart};
+ghost use Rattle.head_column.specs.Validity.{raise_first, runs_from};
 
 use crate::Run;
 use std::alloc::AllocError;
@@ -72,4 +73,42 @@ pub(crate) fn merge(runs: &mut Vec<Run>, run: Run) -> Result<(), AllocError>
         runs.drain(first + 1..last);
     }
     Ok(())
+}
+
+// Returns the number of runs that end before the time, by binary search.
+fn count_expired(runs: &[Run], time: i64) -> usize
+    requires { AreApart runs.now }
+    ensures within { result ≤ length runs.now }
+    ensures rest { runs_from time runs.now ≡ raise_first time (drop result runs.now) }
+{
+    runs.partition_point(
+        |run: &Run| -> bool
+            ensures { result ≡ int_lt run.now.max_time time }
+        { run.max_time < time },
+    )
+}
+
+// Drops the times before `time` from the first run, if there is one.
+fn raise(runs: &mut [Run], time: i64)
+    ensures { runs.new ≡ raise_first time runs.old }
+{
+    if !runs.is_empty() {
+        let first = runs[0];
+        runs[0] = Run {
+            min_time: first.min_time.max(time),
+            max_time: first.max_time,
+        };
+    }
+}
+
+/// Drops the times before `time` from the runs. Allocates nothing.
+pub(crate) fn cut(runs: &mut Vec<Run>, time: i64)
+    requires { AreApart runs.old.items }
+    ensures left { runs.new.items ≡ runs_from time runs.old.items }
+    ensures fewer { vec_len runs.new ≤ vec_len runs.old }
+    ensures capacity { vec_capacity runs.new ≡ vec_capacity runs.old }
+{
+    let gone = count_expired(runs, time);
+    runs.drain(..gone);
+    raise(runs, time);
 }

@@ -7,7 +7,6 @@ use Rattle.std.proofs.lemmas.List.{map-append}
 use Rattle.std.proofs.lemmas.List.Elements.{filter-append}
 use Rattle.std.proofs.lemmas.List.Sums.{sum_by-cons}
 use Rattle.hw_bytes.proofs.Lists.{along-push, by_push}
-use Rattle.wal_record.specs.declared.record.WalRecord.{WalRecord}
 use Rattle.wal_record.specs.Labels.{same_labels}
 use Rattle.wal_record.specs.Entries.{Entry, series, sample, stone, entries_of}
 use Rattle.head_column.specs.declared.items.Item.{Item}
@@ -20,6 +19,7 @@ use Rattle.head_series.specs.Texts.{place}
 use Rattle.head_series.specs.Bindings.{series_of}
 use Rattle.head_series.proofs.Places.{place_none, place_within}
 use Rattle.head_core.specs.Owners.{bindings, owner}
+use Rattle.head_core.specs.Taken.{Taken}
 use Rattle.head_core.specs.Counts.{Fate, accepted, stale, hides, empty_stone, sample_item, stone_item, items_of, fate_of, unknown_fate, item_fate, fate_at, fates, is_fate, counts_of}
 use Rattle.head_core.specs.Resolved.{slot_behind, with_slot, items_at, resolved}
 use Rattle.head_core.specs.Applied.{values_after, outcomes_after, new_slots, AreCountsOfOutcomes}
@@ -101,8 +101,8 @@ module _ {V : Type 0} (after : V → Item → V) (told : V → Item → Outcome)
         ∙ sym (ap (filter is_outcome) (fates_more fs e))
 
   -- Applied to a slot for each series, the items have the outcomes that the counts tell.
-  pub counted : (rs : List WalRecord) → AreCountsOfOutcomes (outcomes_after after told (new_slots new (entries_of rs)) (resolved (entries_of rs))) (counts_of rs)
-  counted rs =
+  pub counted : (t : Taken) → AreCountsOfOutcomes (outcomes_after after told (new_slots new (entries_of t.kept)) (resolved (entries_of t.kept))) (counts_of t)
+  counted t =
       record {
         accepted = count_is accepted (λ f h. grind arith);
         stale = count_is stale (λ f h. grind arith);
@@ -111,7 +111,7 @@ module _ {V : Type 0} (after : V → Item → V) (told : V → Item → Outcome)
       }
     where
       es : List Entry
-      es = entries_of rs
+      es = entries_of t.kept
 
       n : ℕ
       n = length (series_of (bindings es))

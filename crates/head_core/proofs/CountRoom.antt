@@ -7,7 +7,7 @@ use Rattle.wal_record.specs.Entries.{Entry}
 use Rattle.head_core.specs.declared.counts.Counts.{Counts}
 use Rattle.head_core.specs.Content.{count_limit}
 use Rattle.head_core.specs.Counts.{bound, accepted, stale, unknown, hides, empty_stone, unknown_stone}
-use Rattle.head_core.specs.Room.{HaveClasses, HaveCounts}
+use Rattle.head_core.specs.Room.{HaveClasses, HaveCounts, HaveExpired}
 
 pub all_fates : (c : Counts) (es : List Entry) → HaveCounts c es
     → All (λ count. count + length es ≤ count_limit) (c.series_entries ∷ c.accepted ∷ c.stale ∷ c.unknown ∷ c.hiding ∷ c.empty_stones ∷ c.unknown_stones ∷ [])
@@ -19,6 +19,11 @@ all_fates c es h (suc (suc (suc (suc zero)))) d l = h hides
 all_fates c es h (suc (suc (suc (suc (suc zero))))) d l = h empty_stone
 all_fates c es h (suc (suc (suc (suc (suc (suc zero)))))) d l = h unknown_stone
 all_fates c es h (suc (suc (suc (suc (suc (suc (suc k))))))) d l = absurd (omega (arith, l))
+
+pub all_expired : (c : Counts) (es : List Entry) → HaveExpired c es → All (λ count. count + length es ≤ count_limit) (c.expired_samples ∷ c.expired_stones ∷ [])
+all_expired c es h zero d l = h.samples
+all_expired c es h (suc zero) d l = h.stones
+all_expired c es h (suc (suc k)) d l = absurd (omega (arith, l))
 
 pub all_classes : (c : Counts) (rs : List WalRecord) → HaveClasses c rs
     → All (λ count. count + length rs ≤ count_limit) (c.series_records ∷ c.sample_records ∷ c.stone_records ∷ c.skipped_records ∷ [])

@@ -1,5 +1,5 @@
 -- Counting one entry more, and one record.
-use Rattle.std.proofs.Common.{◌≡◌, ℕ, ◌+◌, Bool, true, false, List, [], ◌∷◌, ◌++◌, cond, ap, ◌∙◌, refl, arith}
+use Rattle.std.proofs.Common.{◌≡◌, ℕ, ℤ, ◌+◌, Bool, true, false, List, [], ◌∷◌, ◌++◌, cond, ap, ◌∙◌, refl, arith}
 use Rattle.std.specs.Prelude.{count_by, if◌then◌else◌}
 use Rattle.std.proofs.lemmas.List.Sums.{sum_by_push}
 use Rattle.std.proofs.Math.Path.{fun_ext}
@@ -7,9 +7,11 @@ use Rattle.hw_bytes.proofs.Lists.{along-push, flat_map-push}
 use Rattle.wal_record.specs.declared.record.WalRecord.{WalRecord}
 use Rattle.wal_record.specs.declared.record.WalRecord.TheVariants.{Series, Samples, Stones, Other}
 use Rattle.wal_record.specs.Entries.{Entry, entries_in, entries_of}
+use Rattle.wal_record.specs.Validity.{expired_samples, expired_stones, valid_in}
 use Rattle.head_core.specs.declared.counts.Counts.{Counts}
-use Rattle.head_core.specs.Counts.{Fate, bound, accepted, stale, unknown, hides, empty_stone, unknown_stone, fate_at, fates, is_fate, is_series, is_samples, is_stones, is_skipped, counts_of}
-use Rattle.head_core.specs.Steps.{with_fate, with_record}
+use Rattle.head_core.specs.Taken.{Taken, taken_after}
+use Rattle.head_core.specs.Counts.{Class, Fate, bound, accepted, stale, unknown, hides, empty_stone, unknown_stone, fate_at, fates, is_fate, series_class, samples_class, stones_class, other_class, has_class, counts_of}
+use Rattle.head_core.specs.Steps.{with_expired, with_fate, with_record}
 
 pub count_by-push : {A : Type 0} (p : A → Bool) (xs : List A) (x : A) → count_by p (xs ++ x ∷ []) ≡ count_by p xs + (if p x then 1 else 0)
 count_by-push p xs x = sum_by_push (λ y. cond (p y) 1 0) xs x
@@ -28,13 +30,9 @@ fates_more es e = along-push (λ before f. fate_at before f ∷ []) es e
 pub count_more : (f : Fate) (es : List Entry) (e : Entry) → count_by (is_fate f) (fates (es ++ e ∷ [])) ≡ count_by (is_fate f) (fates es) + (if is_fate f (fate_at es e) then 1 else 0)
 count_more f es e = ap (count_by (is_fate f)) (fates_more es e) ∙ count_by-push (is_fate f) (fates es) (fate_at es e)
 
--- counts, by the records of each class and the entries of each fate
-abbrev pub counts_at : (a b c d : ℕ) → (Fate → ℕ) → Counts
-counts_at a b c d n = record {
-  series_records = a;
-  sample_records = b;
-  stone_records = c;
-  skipped_records = d;
+-- the counts with these numbers of entries of each fate
+abbrev pub counts_at : Counts → (Fate → ℕ) → Counts
+counts_at base n = record base {
   series_entries = n bound;
   accepted = n accepted;
   stale = n stale;
@@ -51,48 +49,81 @@ tally es f = count_by (is_fate f) (fates es)
 pub tally_more : (es : List Entry) (e : Entry) → tally (es ++ e ∷ []) ≡ (λ f. if is_fate f (fate_at es e) then tally es f + 1 else tally es f)
 tally_more es e = fun_ext (λ f. ap (count_by (is_fate f)) (fates_more es e) ∙ count_step (is_fate f) (fates es) (fate_at es e))
 
-with_fate_is : (a b c d : ℕ) (n : Fate → ℕ) (f : Fate) → counts_at a b c d (λ g. if is_fate g f then n g + 1 else n g) ≡ with_fate f (counts_at a b c d n)
-with_fate_is a b c d n bound = refl
-with_fate_is a b c d n accepted = refl
-with_fate_is a b c d n stale = refl
-with_fate_is a b c d n unknown = refl
-with_fate_is a b c d n hides = refl
-with_fate_is a b c d n empty_stone = refl
-with_fate_is a b c d n unknown_stone = refl
+with_fate_is : (base : Counts) (n : Fate → ℕ) (f : Fate) → counts_at base (λ g. if is_fate g f then n g + 1 else n g) ≡ with_fate f (counts_at base n)
+with_fate_is base n bound = refl
+with_fate_is base n accepted = refl
+with_fate_is base n stale = refl
+with_fate_is base n unknown = refl
+with_fate_is base n hides = refl
+with_fate_is base n empty_stone = refl
+with_fate_is base n unknown_stone = refl
 
 -- the counts, with one entry more
-pub counts_more : (a b c d : ℕ) (es : List Entry) (e : Entry) → counts_at a b c d (tally (es ++ e ∷ [])) ≡ with_fate (fate_at es e) (counts_at a b c d (tally es))
-counts_more a b c d es e = ap (counts_at a b c d) (tally_more es e) ∙ with_fate_is a b c d (tally es) (fate_at es e)
+pub counts_more : (base : Counts) (es : List Entry) (e : Entry) → counts_at base (tally (es ++ e ∷ [])) ≡ with_fate (fate_at es e) (counts_at base (tally es))
+counts_more base es e = ap (counts_at base) (tally_more es e) ∙ with_fate_is base (tally es) (fate_at es e)
 
 pub entries_of-push : (rs : List WalRecord) (r : WalRecord) → entries_of (rs ++ r ∷ []) ≡ entries_of rs ++ entries_in r
 entries_of-push rs r = flat_map-push entries_in rs r
 
--- the counts of the records, with these of the entries
-abbrev pub counts_by : List WalRecord → (Fate → ℕ) → Counts
-counts_by rs n = counts_at (count_by is_series rs) (count_by is_samples rs) (count_by is_stones rs) (count_by is_skipped rs) n
+-- ---- one more record
 
--- one record more
-pub record_more : (rs : List WalRecord) (r : WalRecord) (n : Fate → ℕ) → counts_by (rs ++ r ∷ []) n ≡ with_record r (counts_by rs n)
-record_more rs r n =
-    let a = count_step is_series rs r in
-    let b = count_step is_samples rs r in
-    let c = count_step is_stones rs r in
-    let d = count_step is_skipped rs r in
-    let e : counts_by (rs ++ r ∷ []) n ≡ one_of r = cc in
+-- the counts of records by class, with these of expired entries and of other entries
+abbrev counts_by : List WalRecord → ℕ → ℕ → (Fate → ℕ) → Counts
+counts_by rs a b n = record {
+  series_records = count_by (has_class series_class) rs;
+  sample_records = count_by (has_class samples_class) rs;
+  stone_records = count_by (has_class stones_class) rs;
+  skipped_records = count_by (has_class other_class) rs;
+  series_entries = n bound;
+  accepted = n accepted;
+  stale = n stale;
+  unknown = n unknown;
+  hiding = n hides;
+  empty_stones = n empty_stone;
+  unknown_stones = n unknown_stone;
+  expired_samples = a;
+  expired_stones = b;
+}
+
+class_more : (rs : List WalRecord) (r : WalRecord) (a b : ℕ) (n : Fate → ℕ) → counts_by (rs ++ r ∷ []) a b n ≡ with_record r (counts_by rs a b n)
+class_more rs r a b n =
+    let series = count_step (has_class series_class) rs r in
+    let samples = count_step (has_class samples_class) rs r in
+    let stones = count_step (has_class stones_class) rs r in
+    let others = count_step (has_class other_class) rs r in
+    let e : counts_by (rs ++ r ∷ []) a b n ≡ one_of r = cc in
     e ∙ by r
   where
-    add : (WalRecord → Bool) → WalRecord → ℕ
-    add p q = if p q then count_by p rs + 1 else count_by p rs
+    add : Class → WalRecord → ℕ
+    add c q = if has_class c q then count_by (has_class c) rs + 1 else count_by (has_class c) rs
 
     one_of : WalRecord → Counts
-    one_of q = counts_at (add is_series q) (add is_samples q) (add is_stones q) (add is_skipped q) n
+    one_of q = record (counts_by rs a b n) { series_records = add series_class q; sample_records = add samples_class q; stone_records = add stones_class q; skipped_records = add other_class q }
 
-    by : (q : WalRecord) → one_of q ≡ with_record q (counts_by rs n)
+    by : (q : WalRecord) → one_of q ≡ with_record q (counts_by rs a b n)
     by (Series es) = refl
     by (Samples ss) = refl
     by (Stones ds) = refl
     by (Other kind) = refl
 
--- the counts of a reading, by its entries
-pub counts_of_is : (rs : List WalRecord) → counts_of rs ≡ counts_by rs (tally (entries_of rs))
-counts_of_is rs = refl
+-- what a least valid time leaves of a record has its class
+same_class : (m : ℤ) (r : WalRecord) (c : Counts) → with_record (valid_in m r) c ≡ with_record r c
+same_class m (Series es) c = refl
+same_class m (Samples ss) c = refl
+same_class m (Stones ds) c = refl
+same_class m (Other kind) c = refl
+
+-- a record more is a record more of its class, and its expired entries
+pub record_more : (m : ℤ) (t : Taken) (r : WalRecord) (n : Fate → ℕ) → counts_at (counts_of (taken_after m t r)) n ≡ with_expired m r (with_record r (counts_at (counts_of t) n))
+record_more m t r n = class_more t.kept (valid_in m r) a b n ∙ same_class m r (counts_by t.kept a b n) ∙ by r where
+  a : ℕ
+  a = t.expired_samples + expired_samples m (r ∷ [])
+
+  b : ℕ
+  b = t.expired_stones + expired_stones m (r ∷ [])
+
+  by : (q : WalRecord) → with_record q (counts_by t.kept a b n) ≡ with_expired m r (with_record q (counts_at (counts_of t) n))
+  by (Series es) = refl
+  by (Samples ss) = refl
+  by (Stones ds) = refl
+  by (Other kind) = refl

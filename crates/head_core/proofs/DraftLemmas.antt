@@ -15,6 +15,7 @@ use Rattle.wal_record.specs.declared.record.SeriesEntry.{SeriesEntry}
 use Rattle.wal_record.specs.declared.record.WalRecord.{WalRecord}
 use Rattle.wal_record.specs.Labels.{same_labels, same_text}
 use Rattle.wal_record.specs.Entries.{Entry, series, sample, stone, entries_in, entries_of}
+use Rattle.wal_record.specs.Validity.{valid}
 use Rattle.head_column.specs.Histories.{ColumnValue, no_history}
 use Rattle.head_series.specs.Texts.{Text, place, texts_of}
 use Rattle.head_series.specs.Table.{Labels, Table, slot_at, has_series, with_series}
@@ -25,9 +26,10 @@ use Rattle.head_series.proofs.PlanLemmas.{front_same, back_same, series_after-pu
 use Rattle.head_postings.specs.Postings.{Lists}
 use Rattle.head_postings.specs.Room as postings_room
 use Rattle.head_core.specs.Owners.{binding, bindings}
-use Rattle.head_core.specs.Content.{Content, AreAlike, AreHistoriesOf, IsContentOf}
+use Rattle.head_core.specs.Taken.{Taken}
+use Rattle.head_core.specs.Content.{Content, AreAlike, AreHistoriesOf, IsContentOf, IsShownBy}
 use Rattle.head_core.specs.Heads.{HeadValue}
-use Rattle.head_core.specs.Room.{Made, sets_of, pointed, to_slot, targets, spare_at, spares_with, HasRoom, HaveClasses, HaveCounts, HaveSpare, IsReserved}
+use Rattle.head_core.specs.Room.{Made, sets_of, pointed, to_slot, targets, spare_at, spares_with, HasRoom, HaveClasses, HaveCounts, HaveExpired, HaveSpare, IsReserved}
 use Rattle.head_core.proofs.RoomLemmas.{front_at, same_many, spare_append, spare_front}
 use Rattle.head_core.specs.Draft.{Drafted, slot_after, many_at, slots_behind, AreWider, FitsIn, HaveColumns, IsDraft, IsItemEntry, IsKept, IsLonger, IsNoted}
 
@@ -225,7 +227,7 @@ draft_none h d ready columns new slots counts table postings own = record {
 
 -- the histories and the rest of what is shown stay
 pub alike_refl : (c : Content) → AreAlike c c
-alike_refl c = record { series = refl; slots = λ r. refl; greatest = refl; texts = refl; histories = refl; all = refl; selected = λ n v. refl; greatest_time = refl; counts = refl }
+alike_refl c = record { series = refl; slots = λ r. refl; greatest = refl; texts = refl; histories = refl; all = refl; selected = λ n v. refl; greatest_time = refl; counts = refl; min_valid = refl }
 
 pub alike_trans : {b c d : Content} → AreAlike b c → AreAlike c d → AreAlike b d
 alike_trans h k = record {
@@ -238,6 +240,7 @@ alike_trans h k = record {
   selected = λ n v. k.selected n v ∙ h.selected n v;
   greatest_time = k.greatest_time ∙ h.greatest_time;
   counts = k.counts ∙ h.counts;
+  min_valid = k.min_valid ∙ h.min_valid;
 }
 
 pub kept_refl : (h : HeadValue) → IsKept h h
@@ -249,21 +252,25 @@ kept_trans a b = record { content = alike_trans a.content b.content; failed = b.
 pub kept_same : (h k : HeadValue) → k.content ≡ h.content → k.failed ≡ h.failed → IsKept h k
 kept_same h k content failed = record { content = subst (λ c. AreAlike h.content c) (sym content) (alike_refl h.content); failed = failed; most = ap (λ (c : Content). c.table.most) content }
 
--- the content of a reading stays
-pub content_alike : (rs : List WalRecord) (c d : Content) → AreAlike c d → IsContentOf rs c → IsContentOf rs d
-content_alike rs c d a h = record {
-  entries = record {
-    shown = record {
-      series = a.series ∙ h.entries.shown.series;
-      owners = λ r. ap (λ (ss : List Labels). option_and_then (slice_get ss) (slot_at d.table r)) a.series ∙ ap (option_and_then (slice_get c.table.series)) (a.slots r) ∙ h.entries.shown.owners r;
-      within = λ r s e. let k = h.entries.shown.within r s (sym (a.slots r) ∙ e) in let m = ap length a.series in omega (arith, k, m);
-      greatest = a.greatest ∙ h.entries.shown.greatest;
-      texts = a.texts ∙ h.entries.shown.texts ∙ ap (λ (ss : List Labels). distinct same_text (flat_map texts_of ss)) (sym a.series);
-    };
-    histories = subst (λ hs. AreHistoriesOf (entries_of rs) (series_of (bindings (entries_of rs))) hs) (sym a.histories) h.entries.histories;
-    postings = record { every = a.all ∙ h.entries.postings.every; each = λ n v. a.selected n v ∙ h.entries.postings.each n v };
-    greatest_time = a.greatest_time ∙ h.entries.greatest_time;
+-- what is shown of entries stays
+shown_alike : (es : List Entry) (c d : Content) → AreAlike c d → IsShownBy es c → IsShownBy es d
+shown_alike es c d a h = record {
+  shown = record {
+    series = a.series ∙ h.shown.series;
+    owners = λ r. ap (λ (ss : List Labels). option_and_then (slice_get ss) (slot_at d.table r)) a.series ∙ ap (option_and_then (slice_get c.table.series)) (a.slots r) ∙ h.shown.owners r;
+    within = λ r s e. let k = h.shown.within r s (sym (a.slots r) ∙ e) in let m = ap length a.series in omega (arith, k, m);
+    greatest = a.greatest ∙ h.shown.greatest;
+    texts = a.texts ∙ h.shown.texts ∙ ap (λ (ss : List Labels). distinct same_text (flat_map texts_of ss)) (sym a.series);
   };
+  histories = subst (λ hs. AreHistoriesOf es (series_of (bindings es)) hs) (sym a.histories) h.histories;
+  postings = record { every = a.all ∙ h.postings.every; each = λ n v. a.selected n v ∙ h.postings.each n v };
+  greatest_time = a.greatest_time ∙ h.greatest_time;
+}
+
+-- the content of what was taken stays
+pub content_alike : (t : Taken) (c d : Content) → AreAlike c d → IsContentOf t c → IsContentOf t d
+content_alike t c d a h = record {
+  entries = subst (λ m. IsShownBy (entries_of (valid m t.kept)) d) (sym a.min_valid) (shown_alike (entries_of (valid c.min_valid t.kept)) c d a h.entries);
   counted = a.counts ∙ h.counted;
 }
 
@@ -499,10 +506,10 @@ records_long rs i r within is =
 
 -- what room was made for, once there is room for as many columns as there are bindings
 pub draft_reserved : (k l : HeadValue) (d : Drafted) (m : Made) (rs : List WalRecord) → IsDraft k d (entries_of rs) → l.content ≡ k.content → l.failed ≡ false → l.room.spares ≡ k.room.spares
-    → length d.made.ready ≤ l.room.columns → HaveCounts k.content.counts (entries_of rs) → HaveClasses k.content.counts rs → m ≡ d.made → IsReserved l m rs
-draft_reserved k l d m rs have content sound spares many counts classes made =
+    → length d.made.ready ≤ l.room.columns → HaveCounts k.content.counts (entries_of rs) → HaveClasses k.content.counts rs → HaveExpired k.content.counts (entries_of rs) → m ≡ d.made → IsReserved l m rs
+draft_reserved k l d m rs have content sound spares many counts classes expired made =
     subst (λ x. IsReserved l x rs) (sym made) (subst (λ (x : Content). IsReserved (record { content = x; failed = l.failed; room = l.room }) d.made rs) (sym content)
-    (record { sound = sound; room = room; classes = classes }))
+    (record { sound = sound; room = room; classes = classes; expired = expired }))
   where
     es : List Entry
     es = entries_of rs

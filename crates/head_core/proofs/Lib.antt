@@ -3,20 +3,25 @@ pub mod Lists
 pub mod Known
 pub mod Shown
 pub mod More
+pub mod Validity
 pub mod Reading
 pub mod Limits
 pub mod Taking
 pub mod Binding
 pub mod Whole
 pub mod Resolving
+pub mod ResolvingValid
 pub mod Assembling
 pub mod OneContent
+pub mod Truncating
 pub mod RoomLemmas
+pub mod RoomCounts
 pub mod Slots
 pub mod Applied
 pub mod AppliedValues
 pub mod AppliedOutcomes
 mod AppliedWorked
+mod ValidityWorked
 pub mod CountRoom
 pub mod DraftLemmas
 pub mod Idle

@@ -1,5 +1,5 @@
 -- When a head is full: what was counted and bound stays so, and what keeps an entry or a record from being taken takes the content past the limits.
-use Rattle.std.proofs.Common.{◌≡◌, ℕ, ◌+◌, ◌<◌, ◌≤◌, ◌^◌, ◌⊎◌, inl, inr, Bool, true, false, List, [], ◌∷◌, ◌++◌, ap, sym, subst, ◌∙◌, refl, arith, append_assoc, length, length-append}
+use Rattle.std.proofs.Common.{◌≡◌, ℕ, ℤ, All, ◌+◌, ◌<◌, ◌≤◌, ◌^◌, ◌⊎◌, inl, inr, Bool, true, false, List, [], ◌∷◌, ◌++◌, ap, sym, subst, ◌∙◌, refl, arith, append_assoc, length, length-append}
 use Rattle.std.specs.Prelude.{count_by, cond, if◌then◌else◌}
 use Rattle.std.specs.List.{flat_map}
 use Rattle.std.proofs.lemmas.List.{map-append}
@@ -13,19 +13,23 @@ use Rattle.wal_record.specs.declared.record.WalRecord.{WalRecord}
 use Rattle.wal_record.specs.declared.record.WalRecord.TheVariants.{Series, Samples, Stones, Other}
 use Rattle.wal_record.specs.Labels.{same_text, same_labels}
 use Rattle.wal_record.specs.Entries.{Entry, series, sample, stone, entries_in, entries_of}
+use Rattle.wal_record.specs.Validity.{IsFrom, valid, valid_in}
+use Rattle.wal_record.proofs.Validity.{valid_all_from, valid_entries}
 use Rattle.head_series.specs.Texts.{Text, with_texts, texts_of}
 use Rattle.head_series.specs.Table.{Labels, Table, has_series, with_series, texts_with, IsFull}
 use Rattle.head_series.specs.Bindings.{Binding, IsTableOf, series_of}
 use Rattle.head_core.specs.declared.counts.Counts.{Counts}
 use Rattle.head_core.specs.Owners.{binding, bindings}
-use Rattle.head_core.specs.Counts.{Fate, bound, accepted, stale, unknown, hides, empty_stone, unknown_stone, fate_at, fates, is_fate, is_series, is_samples, is_stones, is_skipped, counts_of, count_of_class}
+use Rattle.head_core.specs.Taken.{Taken, taken_after}
+use Rattle.head_core.specs.Counts.{Fate, bound, accepted, stale, unknown, hides, empty_stone, unknown_stone, fate_at, fates, is_fate, counts_of, count_of_class}
 use Rattle.head_core.specs.Content.{Content, IsContentOf, AreCountsWithin, IsWithinLimits}
-use Rattle.head_core.specs.Steps.{ColumnLaw, told, with_record, count_of_fate, IsOverTable, IsOver, Takes}
-use Rattle.head_core.proofs.Counting.{count_more, counts_at, counts_by, tally, entries_of-push, record_more}
+use Rattle.head_core.specs.Steps.{ColumnLaw, told, with_expired, with_record, count_of_fate, IsExpiredOver, IsOverTable, IsOver, Takes}
+use Rattle.head_core.proofs.Counting.{count_more, counts_at, tally, entries_of-push, record_more}
 use Rattle.head_core.proofs.Known.{bindings-push, label_sets}
-use Rattle.head_core.proofs.Shown.{told_is}
+use Rattle.head_core.proofs.Lists.{all_behind, all_front}
 use Rattle.head_core.proofs.More.{series_of-push}
-use Rattle.head_core.proofs.Reading.{IsReadBy, takes_read, read_content, with_class}
+use Rattle.head_core.proofs.Reading.{IsReadBy, counted_read, takes_read, takes_time, told_from}
+use Rattle.head_core.proofs.Validity.{bindings_valid}
 use Rattle.head_series.proofs.BindLemmas.{with_texts-distinct}
 
 along-append : {A B : Type 0} (f : List A → A → List B) (xs ys : List A) → along f (xs ++ ys) ≡ along f xs ++ along (λ before. f (xs ++ before)) ys
@@ -112,14 +116,14 @@ full_past es t x h (absent, full) = by full where
   by (inr l) = inr (subst (λ ts. t.most < length ts) texts l)
 
 -- the count of a fate is how many entries have it
-pub count_at : (a b c d : ℕ) (n : Fate → ℕ) (f : Fate) → count_of_fate f (counts_at a b c d n) ≡ n f
-count_at a b c d n bound = refl
-count_at a b c d n accepted = refl
-count_at a b c d n stale = refl
-count_at a b c d n unknown = refl
-count_at a b c d n hides = refl
-count_at a b c d n empty_stone = refl
-count_at a b c d n unknown_stone = refl
+pub count_at : (base : Counts) (n : Fate → ℕ) (f : Fate) → count_of_fate f (counts_at base n) ≡ n f
+count_at base n bound = refl
+count_at base n accepted = refl
+count_at base n stale = refl
+count_at base n unknown = refl
+count_at base n hides = refl
+count_at base n empty_stone = refl
+count_at base n unknown_stone = refl
 
 pub same_fate : (f : Fate) → is_fate f f ≡ true
 same_fate bound = refl
@@ -175,73 +179,80 @@ over_table es t e more fs shown most are series_fit texts_fit o = by e refl o wh
   by (sample s) k p = p
   by (stone s) k p = p
 
--- What was read is followed by an entry that is over a limit: no records with these entries, and whatever is behind them, are within the limits.
-module _ (law : ColumnLaw) (a b c d : ℕ) {es : List Entry} {m : Content} (h : IsReadBy a b c d es m) (most : m.table.most ≡ 4294967295) (e : Entry) (more : List Entry) (rs : List WalRecord)
-    (are : entries_of rs ≡ es ++ e ∷ more) (w : IsWithinLimits rs) where
-  split : entries_of rs ≡ (es ++ e ∷ []) ++ more
+-- What was read is followed by an entry that is over a limit: nothing that was taken with these entries, and whatever is behind them, is
+-- within the limits.
+module _ (law : ColumnLaw) (base : Counts) {es : List Entry} {x : Content} (h : IsReadBy base es x) (most : x.table.most ≡ 4294967295) (e : Entry) (from : IsFrom x.min_valid e) (more : List Entry) (t : Taken)
+    (are : entries_of t.kept ≡ es ++ e ∷ more) (w : IsWithinLimits t) where
+  split : entries_of t.kept ≡ (es ++ e ∷ []) ++ more
   split = are ∙ sym (append_assoc es (e ∷ []) more)
 
   -- the entry's count has no room
-  over_count : count_of_fate (told m.table m.histories e) m.counts ≡ 18446744073709551615 → ⊥
+  over_count : count_of_fate (told x.table x.histories e) x.counts ≡ 18446744073709551615 → ⊥
   over_count o =
       let f : Fate = fate_at es e in
       let n : tally es f ≡ 18446744073709551615 =
-      sym (ap (λ g. count_of_fate g m.counts) (told_is h.entries law e) ∙ ap (count_of_fate f) h.counted ∙ count_at a b c d (tally es) f) ∙ o in
-      let one : tally (es ++ e ∷ []) f ≡ tally es f + 1 = count_more f es e ∙ ap (λ t. tally es f + (if t then 1 else 0)) (same_fate f) in
+      sym (ap (λ g. count_of_fate g x.counts) (told_from law es h.entries e from) ∙ ap (count_of_fate f) h.counted ∙ count_at base (tally es) f) ∙ o in
+      let one : tally (es ++ e ∷ []) f ≡ tally es f + 1 = count_more f es e ∙ ap (λ b. tally es f + (if b then 1 else 0)) (same_fate f) in
       let front = fates_front f (es ++ e ∷ []) more in
-      let all : count_of_fate f (counts_of rs) ≡ tally ((es ++ e ∷ []) ++ more) f =
-      count_at (count_by is_series rs) (count_by is_samples rs) (count_by is_stones rs) (count_by is_skipped rs) (tally (entries_of rs)) f ∙ ap (λ fs. tally fs f) split in
-      let few = fate_within (counts_of rs) w.counts f in
+      let all : count_of_fate f (counts_of t) ≡ tally ((es ++ e ∷ []) ++ more) f = count_at (counts_of t) (tally (entries_of t.kept)) f ∙ ap (λ fs. tally fs f) split in
+      let few = fate_within (counts_of t) w.counts f in
       omega (arith, n, one, front, all, few)
 
-  pub over_read : IsOver m e → ⊥
-  over_read (inl o) = over_table es m.table e more (entries_of rs) h.entries.shown most are w.series w.texts o
+  pub over_read : IsOver x e → ⊥
+  over_read (inl o) = over_table es x.table e more (entries_of t.kept) (subst (λ bs. IsTableOf bs x.table) (bindings_valid x.min_valid es) h.entries.shown) most are w.series w.texts o
   over_read (inr o) = over_count o
 
 -- the entries of records, with those of one more, of which some were read
 pub entries_split : (rs : List WalRecord) (r : WalRecord) (fs : List Entry) (e : Entry) (more : List Entry) → entries_in r ≡ fs ++ e ∷ more → entries_of (rs ++ r ∷ []) ≡ (entries_of rs ++ fs) ++ e ∷ more
 entries_split rs r fs e more k = entries_of-push rs r ∙ ap (λ gs. entries_of rs ++ gs) k ∙ sym (append_assoc (entries_of rs) fs (e ∷ more))
 
-module _ (law : ColumnLaw) {rs : List WalRecord} {c : Content} (h : IsContentOf rs c) (r : WalRecord) where
-  -- A record was counted and some of its entries were taken, and the next is over a limit: with the record, the content is past the limits.
-  pub over_entries : (fs : List Entry) (e : Entry) (more : List Entry) (m : Content) → entries_in r ≡ fs ++ e ∷ more → Takes (record c { counts = with_record r c.counts }) fs m → m.table.most ≡ 4294967295
-      → IsOver m e → IsWithinLimits (rs ++ r ∷ []) → ⊥
-  over_entries fs e more m k t most o w =
-      over_read law (count_by is_series (rs ++ r ∷ [])) (count_by is_samples (rs ++ r ∷ [])) (count_by is_stones (rs ++ r ∷ [])) (count_by is_skipped (rs ++ r ∷ []))
-      (takes_read law (count_by is_series (rs ++ r ∷ [])) (count_by is_samples (rs ++ r ∷ [])) (count_by is_stones (rs ++ r ∷ [])) (count_by is_skipped (rs ++ r ∷ [])) fs (with_class law h r (entries_of rs) c (read_content rs c h)) t)
-      most e more (rs ++ r ∷ []) (entries_split rs r fs e more k) w o
+-- A record was counted and some of its entries were taken, and the next is over a limit: with the record, the content is past the limits.
+pub over_entries : ColumnLaw → {t : Taken} {c : Content} → IsContentOf t c → (r : WalRecord) (fs : List Entry) (e : Entry) (more : List Entry) (x : Content) → entries_in (valid_in c.min_valid r) ≡ fs ++ e ∷ more
+    → Takes (record c { counts = with_expired c.min_valid r (with_record r c.counts) }) fs x → x.table.most ≡ 4294967295 → IsOver x e → IsWithinLimits (taken_after c.min_valid t r) → ⊥
+over_entries law {t} {c} h r fs e more x k takes most o w =
+    let m = c.min_valid in
+    let next = taken_after m t r in
+    let from = subst (All (IsFrom m)) k (valid_all_from m r) in
+    let here = all_front (IsFrom m) (e ∷ []) more (all_behind (IsFrom m) fs (e ∷ more) from) in
+    over_read law (counts_of next) (takes_read law (counts_of next) fs (all_front (IsFrom m) fs (e ∷ more) from) (counted_read h r) takes)
+    most e (subst (λ z. IsFrom z e) (sym (takes_time fs takes)) (here 0 e (omega arith))) more next (entries_split t.kept (valid_in m r) fs e more k) w o
 
 -- The count of a record's class has no room: with the record it has more than 64 bits, whatever the entries count.
-pub class_past : (rs : List WalRecord) (r : WalRecord) (n k : Fate → ℕ) → count_of_class r (counts_by rs n) ≡ 18446744073709551615 → count_of_class r (counts_by (rs ++ r ∷ []) k) < 2 ^ 64 → ⊥
-class_past rs r n k o few =
+pub class_past : (m : ℤ) (t : Taken) (r : WalRecord) (n k : Fate → ℕ) → count_of_class r (counts_at (counts_of t) n) ≡ 18446744073709551615 → count_of_class r (counts_at (counts_of (taken_after m t r)) k) < 2 ^ 64 → ⊥
+class_past m t r n k o few =
     let now = any_entries r in
-    let next = ap (count_of_class r) (record_more rs r k) ∙ raised r (counts_by rs k) in
+    let next = ap (count_of_class r) (record_more m t r k) ∙ raised r (counts_at (counts_of t) k) in
     omega (arith, o, now, next, few)
   where
-    any_entries : (q : WalRecord) → count_of_class q (counts_by rs n) ≡ count_of_class q (counts_by rs k)
+    any_entries : (q : WalRecord) → count_of_class q (counts_at (counts_of t) n) ≡ count_of_class q (counts_at (counts_of t) k)
     any_entries (Series es) = refl
     any_entries (Samples ss) = refl
     any_entries (Stones ds) = refl
     any_entries (Other kind) = refl
 
-    raised : (q : WalRecord) (c : Counts) → count_of_class q (with_record q c) ≡ count_of_class q c + 1
+    raised : (q : WalRecord) (c : Counts) → count_of_class q (with_expired m r (with_record q c)) ≡ count_of_class q c + 1
     raised (Series es) c = refl
     raised (Samples ss) c = refl
     raised (Stones ds) c = refl
     raised (Other kind) c = refl
 
--- The same of what the records say.
-pub over_class : {rs : List WalRecord} {c : Content} → IsContentOf rs c → (r : WalRecord) → count_of_class r c.counts ≡ 18446744073709551615 → IsWithinLimits (rs ++ r ∷ []) → ⊥
-over_class {rs} {c} h r o w =
-    class_past rs r (tally (entries_of rs)) (tally (entries_of (rs ++ r ∷ []))) (sym (ap (count_of_class r) h.counted) ∙ o) (class_within (counts_of (rs ++ r ∷ [])) w.counts r)
+-- A record's count of its class, or of its expired entries, has no room: with the record, the content is past the limits.
+pub over_record : {t : Taken} {c : Content} → IsContentOf t c → (r : WalRecord) → (count_of_class r c.counts ≡ 18446744073709551615) ⊎ IsExpiredOver c.min_valid r c.counts → IsWithinLimits (taken_after c.min_valid t r) → ⊥
+over_record {t} {c} h r (inl o) w =
+    let m = c.min_valid in
+    class_past m t r (tally (entries_of t.kept)) (tally (entries_of (taken_after m t r).kept)) (sym (ap (count_of_class r) h.counted) ∙ o) (class_within (counts_of (taken_after m t r)) w.counts r)
+over_record {t} {c} h r (inr (inl o)) w = let few = w.counts.expired_samples in let is = ap (λ (n : Counts). n.expired_samples) h.counted in omega (arith, few, is, o)
+over_record {t} {c} h r (inr (inr o)) w = let few = w.counts.expired_stones in let is = ap (λ (n : Counts). n.expired_stones) h.counted in omega (arith, few, is, o)
 
 -- A content that the head can show is within the limits.
-pub within_limits : (rs : List WalRecord) (c : Content) → IsContentOf rs c → length c.table.series ≤ 4294967295 → length c.table.texts ≤ 4294967295 → AreCountsWithin c.counts → IsWithinLimits rs
-within_limits rs c h few_series few_texts few_counts = record {
-  series = subst (λ ss. length ss ≤ 4294967295) h.entries.shown.series few_series;
-  texts = subst (λ ts. length ts ≤ 4294967295) (h.entries.shown.texts ∙ ap (λ ss. distinct same_text (flat_map texts_of ss)) h.entries.shown.series) few_texts;
+pub within_limits : (t : Taken) (c : Content) → IsContentOf t c → length c.table.series ≤ 4294967295 → length c.table.texts ≤ 4294967295 → AreCountsWithin c.counts → IsWithinLimits t
+within_limits t c h few_series few_texts few_counts = record {
+  series = subst (λ ss. length ss ≤ 4294967295) (h.entries.shown.series ∙ ap series_of same) few_series;
+  texts = subst (λ ts. length ts ≤ 4294967295) (h.entries.shown.texts ∙ ap (λ ss. distinct same_text (flat_map texts_of ss)) (h.entries.shown.series ∙ ap series_of same)) few_texts;
   counts = subst AreCountsWithin h.counted few_counts;
-}
+} where
+  same : bindings (entries_of (valid c.min_valid t.kept)) ≡ bindings (entries_of t.kept)
+  same = ap bindings (valid_entries c.min_valid t.kept) ∙ bindings_valid c.min_valid (entries_of t.kept)
 
 -- A table that had room for a label set, and took it, has no more series and no more texts than it may.
 pub few_after_bind : (old new : Table) (ls : Labels) → length old.series ≤ old.most → length old.texts ≤ old.most → new.series ≡ with_series old.series ls → new.texts ≡ texts_with old ls → new.most ≡ old.most

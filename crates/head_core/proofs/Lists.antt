@@ -1,8 +1,10 @@
 -- Lists without repeats, lists place by place, and a change at one place.
 use Rattle.std.proofs.Common.{◌≡◌, ℕ, zero, suc, ◌+◌, Bool, true, false, List, [], ◌∷◌, ◌++◌, Some, ap, sym, subst, ◌∙◌, refl, set, length, arith}
-use Rattle.std.specs.Prelude.{◌||◌, slice_get, if◌then◌else◌}
+use Rattle.std.specs.Prelude.{◌||◌, All, slice_get, if◌then◌else◌}
 use Rattle.std.specs.List.{list_any, enumerate_from, AllZip}
+use Rattle.std.proofs.lemmas.List.Elements.{All-drop, All-take}
 use Rattle.std.proofs.lemmas.List.Folds.{list_any-append}
+use Rattle.std.proofs.Math.Seq.{drop-append_seam, take-append_seam}
 use Rattle.hw_bytes.specs.Lists.{if_new, distinct, IsSame}
 use Rattle.hw_bytes.proofs.Lists.{along-push, append_none, by_push, list_any-distinct}
 
@@ -117,3 +119,10 @@ enumerate_from-push n [] x = ap (λ m. (m, x) ∷ []) (let k : n ≡ n + 0 = ome
 enumerate_from-push n (y ∷ ys) x =
     ap (λ zs. (n, y) ∷ zs) (enumerate_from-push (n + 1) ys x)
     ∙ ap (λ m. (n, y) ∷ (enumerate_from (n + 1) ys ++ (m, x) ∷ [])) (let k : (n + 1) + length ys ≡ n + suc (length ys) = omega arith in k)
+
+-- what holds of all holds of the first of them, and of the rest
+pub all_front : {A : Type 0} (P : A → Type 0) (xs ys : List A) → All P (xs ++ ys) → All P xs
+all_front P xs ys h = subst (All P) (take-append_seam xs ys) (All-take P (length xs) (xs ++ ys) h)
+
+pub all_behind : {A : Type 0} (P : A → Type 0) (xs ys : List A) → All P (xs ++ ys) → All P ys
+all_behind P xs ys h = subst (All P) (drop-append_seam xs ys) (All-drop P (length xs) (xs ++ ys) h)

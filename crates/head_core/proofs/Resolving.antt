@@ -11,6 +11,7 @@ use Rattle.wal_record.specs.declared.record.SeriesEntry.{SeriesEntry}
 use Rattle.wal_record.specs.declared.record.WalRecord.{WalRecord}
 use Rattle.wal_record.specs.Labels.{same_labels, same_text}
 use Rattle.wal_record.specs.Entries.{Entry, series, sample, stone, entries_in, entries_of}
+use Rattle.wal_record.specs.Validity.{valid_in}
 use Rattle.head_column.specs.declared.items.Item.{Item}
 use Rattle.head_column.specs.declared.items.Item.TheVariants as item
 use Rattle.head_column.specs.declared.items.Outcome.{Outcome}
@@ -22,9 +23,10 @@ use Rattle.head_series.specs.Bindings.{IsTableOf}
 use Rattle.head_series.proofs.BindLemmas.{slot_place}
 use Rattle.head_core.specs.declared.counts.Counts.{Counts}
 use Rattle.head_core.specs.Owners.{bindings, owner}
-use Rattle.head_core.specs.Counts.{Fate, bound, accepted, stale, unknown, hides, empty_stone, unknown_stone, sample_item, stone_item, items_of, fate_of, unknown_fate, item_fate, fate_at, is_fate, is_series, is_samples, is_stones, is_skipped, count_of_class}
+use Rattle.head_core.specs.Taken.{Taken, taken_after}
+use Rattle.head_core.specs.Counts.{Fate, bound, accepted, stale, unknown, hides, empty_stone, unknown_stone, sample_item, stone_item, items_of, fate_of, unknown_fate, item_fate, fate_at, is_fate, counts_of, count_of_class}
 use Rattle.head_core.specs.Content.{AreCountsWithin}
-use Rattle.head_core.specs.Steps.{with_fate, with_record, count_of_fate, IsOverTable, IsTableAfter}
+use Rattle.head_core.specs.Steps.{with_expired, with_fate, with_record, count_of_fate, IsExpiredOver, IsOverTable, IsTableAfter}
 use Rattle.head_core.specs.Resolved.{ResolverValue, slot_behind, with_slot, items_at, resolved, known_counts_of, IsResolved, IsResolvable}
 use Rattle.head_core.specs.Resolving.{with_item, with_entry, items_by, IsResolving, Resolves, none, more, IsItemStopped, IsCountStopped, IsStopped, IsStoppedIn}
 use Rattle.head_core.proofs.Counting.{count_more, counts_at, tally, tally_more, entries_of-push, record_more}
@@ -51,17 +53,17 @@ with_told hides c = c
 with_told empty_stone c = c
 with_told unknown_stone c = with_fate unknown_stone c
 
-with_told_is : (a b c d : ℕ) (n : Fate → ℕ) (f : Fate) → counts_at a b c d (told_alone (λ g. if is_fate g f then n g + 1 else n g)) ≡ with_told f (counts_at a b c d (told_alone n))
-with_told_is a b c d n bound = refl
-with_told_is a b c d n accepted = refl
-with_told_is a b c d n stale = refl
-with_told_is a b c d n unknown = refl
-with_told_is a b c d n hides = refl
-with_told_is a b c d n empty_stone = refl
-with_told_is a b c d n unknown_stone = refl
+with_told_is : (base : Counts) (n : Fate → ℕ) (f : Fate) → counts_at base (told_alone (λ g. if is_fate g f then n g + 1 else n g)) ≡ with_told f (counts_at base (told_alone n))
+with_told_is base n bound = refl
+with_told_is base n accepted = refl
+with_told_is base n stale = refl
+with_told_is base n unknown = refl
+with_told_is base n hides = refl
+with_told_is base n empty_stone = refl
+with_told_is base n unknown_stone = refl
 
-told_more : (a b c d : ℕ) (es : List Entry) (e : Entry) → counts_at a b c d (told_alone (tally (es ++ e ∷ []))) ≡ with_told (fate_at es e) (counts_at a b c d (told_alone (tally es)))
-told_more a b c d es e = ap (λ n. counts_at a b c d (told_alone n)) (tally_more es e) ∙ with_told_is a b c d (tally es) (fate_at es e)
+told_more : (base : Counts) (es : List Entry) (e : Entry) → counts_at base (told_alone (tally (es ++ e ∷ []))) ≡ with_told (fate_at es e) (counts_at base (told_alone (tally es)))
+told_more base es e = ap (λ n. counts_at base (told_alone n)) (tally_more es e) ∙ with_told_is base (tally es) (fate_at es e)
 
 -- an outcome is told by a column
 by_column : (o : Outcome) (c : Counts) → with_told (fate_of o) c ≡ c
@@ -104,30 +106,30 @@ module _ (es : List Entry) (t : Table) (h : IsTableOf (bindings es) t) where
   entry_told (stone d) c = item_told d.reference (stone_item d) c
 
 -- what the entries say, with the counts that they add to those of the records
-pub record IsToldBy (a b c d : ℕ) (es : List Entry) (v : ResolverValue) : Type 0 where
+pub record IsToldBy (base : Counts) (es : List Entry) (v : ResolverValue) : Type 0 where
   pub shown : IsTableOf (bindings es) v.table
-  pub counted : v.counts ≡ counts_at a b c d (told_alone (tally es))
+  pub counted : v.counts ≡ counts_at base (told_alone (tally es))
 
-module _ (a b c d : ℕ) where
+module _ (base : Counts) where
   table_more : (es : List Entry) (t u : Table) (e : Entry) → IsTableOf (bindings es) t → IsTableAfter t e u → IsTableOf (bindings (es ++ e ∷ [])) u
   table_more es t u (series e) h s = subst (λ bs. IsTableOf bs u) (sym (bindings-push es (series e))) (s (bindings es) h)
   table_more es t u (sample x) h s = subst (λ bs. IsTableOf bs u) (sym (bindings-push es (sample x) ∙ append_none (bindings es))) (subst (λ k. IsTableOf (bindings es) k) (sym s) h)
   table_more es t u (stone x) h s = subst (λ bs. IsTableOf bs u) (sym (bindings-push es (stone x) ∙ append_none (bindings es))) (subst (λ k. IsTableOf (bindings es) k) (sym s) h)
 
   -- one entry more
-  step_told : {es : List Entry} {v w : ResolverValue} {e : Entry} {ys : List (ℕ × Item)} → IsToldBy a b c d es v → IsResolving v e ys w → IsToldBy a b c d (es ++ e ∷ []) w
+  step_told : {es : List Entry} {v w : ResolverValue} {e : Entry} {ys : List (ℕ × Item)} → IsToldBy base es v → IsResolving v e ys w → IsToldBy base (es ++ e ∷ []) w
   step_told {es} {v} {w} {e} h s = record {
     shown = table_more es v.table w.table e h.shown s.table;
-    counted = s.counts ∙ entry_told es v.table h.shown e v.counts ∙ ap (with_told (fate_at es e)) h.counted ∙ sym (told_more a b c d es e);
+    counted = s.counts ∙ entry_told es v.table h.shown e v.counts ∙ ap (with_told (fate_at es e)) h.counted ∙ sym (told_more base es e);
   }
 
   -- some entries more, and their items
-  pub resolves_told : {es : List Entry} {v : ResolverValue} (fs : List Entry) {xs : List (ℕ × Item)} {w : ResolverValue} → IsToldBy a b c d es v → Resolves v fs xs w
-      → IsToldBy a b c d (es ++ fs) w × (resolved (es ++ fs) ≡ resolved es ++ xs)
-  resolves_told {es} {v} fs h none = (subst (λ gs. IsToldBy a b c d gs v) (sym (append_none es)) h, ap resolved (append_none es) ∙ sym (append_none (resolved es)))
+  pub resolves_told : {es : List Entry} {v : ResolverValue} (fs : List Entry) {xs : List (ℕ × Item)} {w : ResolverValue} → IsToldBy base es v → Resolves v fs xs w
+      → IsToldBy base (es ++ fs) w × (resolved (es ++ fs) ≡ resolved es ++ xs)
+  resolves_told {es} {v} fs h none = (subst (λ gs. IsToldBy base gs v) (sym (append_none es)) h, ap resolved (append_none es) ∙ sym (append_none (resolved es)))
   resolves_told {es} {v} fs h (more gs xs m e ys w t s) =
       let front = resolves_told gs h t in (
-        subst (λ ks. IsToldBy a b c d ks w) (append_assoc es gs (e ∷ [])) (step_told front.0 s),
+        subst (λ ks. IsToldBy base ks w) (append_assoc es gs (e ∷ [])) (step_told front.0 s),
         ap resolved (sym (append_assoc es gs (e ∷ [])))
             ∙ along-push items_at (es ++ gs) e
             ∙ ap (λ (zs : List (ℕ × Item)). zs ++ items_at (es ++ gs) e) front.1
@@ -135,52 +137,51 @@ module _ (a b c d : ℕ) where
             ∙ append_assoc (resolved es) xs ys,
       )
 
--- what these records count, each by its class, and the entries
-abbrev pub IsToldOf : List WalRecord → List Entry → ResolverValue → Type 0
-IsToldOf rs es v = IsToldBy (count_by is_series rs) (count_by is_samples rs) (count_by is_stones rs) (count_by is_skipped rs) es v
+module _ {t : Taken} {v : ResolverValue} (h : IsResolved t v) (r : WalRecord) where
+  -- the record is counted, its entries aside
+  counted_told : IsToldBy (counts_of (taken_after v.min_valid t r)) (entries_of t.kept) (record v { counts = with_expired v.min_valid r (with_record r v.counts) })
+  counted_told = record {
+    shown = h.shown;
+    counted = ap (λ n. with_expired v.min_valid r (with_record r n)) h.counted ∙ sym (record_more v.min_valid t r (told_alone (tally (entries_of t.kept))));
+  }
 
-told_of : (rs : List WalRecord) (v : ResolverValue) → IsResolved rs v → IsToldOf rs (entries_of rs) v
-told_of rs v h = record { shown = h.shown; counted = h.counted }
+  pushed : entries_of (taken_after v.min_valid t r).kept ≡ entries_of t.kept ++ entries_in (valid_in v.min_valid r)
+  pushed = entries_of-push t.kept (valid_in v.min_valid r)
 
-of_told : (rs : List WalRecord) (v : ResolverValue) → IsToldOf rs (entries_of rs) v → IsResolved rs v
-of_told rs v h = record { shown = h.shown; counted = h.counted }
+  -- The record was counted, and then what is left of its entries was read.
+  module _ (xs : List (ℕ × Item)) (w : ResolverValue) (read : Resolves (record v { counts = with_expired v.min_valid r (with_record r v.counts) }) (entries_in (valid_in v.min_valid r)) xs w) where
+    both : IsToldBy (counts_of (taken_after v.min_valid t r)) (entries_of t.kept ++ entries_in (valid_in v.min_valid r)) w × (resolved (entries_of t.kept ++ entries_in (valid_in v.min_valid r)) ≡ resolved (entries_of t.kept) ++ xs)
+    both = resolves_told (counts_of (taken_after v.min_valid t r)) (entries_in (valid_in v.min_valid r)) counted_told read
 
-module _ {rs : List WalRecord} {v : ResolverValue} (h : IsResolved rs v) (r : WalRecord) where
-  -- one record more, its entries aside
-  counted_told : IsToldOf (rs ++ r ∷ []) (entries_of rs) (record v { counts = with_record r v.counts })
-  counted_told = record { shown = h.shown; counted = ap (with_record r) h.counted ∙ sym (record_more rs r (told_alone (tally (entries_of rs)))) }
+    pub resolved_more : IsResolved (taken_after v.min_valid t r) w
+    resolved_more = let told = subst (λ es. IsToldBy (counts_of (taken_after v.min_valid t r)) es w) (sym pushed) both.0 in record { shown = told.shown; counted = told.counted }
 
-  -- The record was counted, and then its entries were read.
-  module _ (xs : List (ℕ × Item)) (w : ResolverValue) (t : Resolves (record v { counts = with_record r v.counts }) (entries_in r) xs w) where
-    both : IsToldOf (rs ++ r ∷ []) (entries_of rs ++ entries_in r) w × (resolved (entries_of rs ++ entries_in r) ≡ resolved (entries_of rs) ++ xs)
-    both = resolves_told (count_by is_series (rs ++ r ∷ [])) (count_by is_samples (rs ++ r ∷ [])) (count_by is_stones (rs ++ r ∷ [])) (count_by is_skipped (rs ++ r ∷ [])) (entries_in r) counted_told t
+    pub items_more : resolved (entries_of (taken_after v.min_valid t r).kept) ≡ resolved (entries_of t.kept) ++ xs
+    items_more = ap resolved pushed ∙ both.1
 
-    pub resolved_more : IsResolved (rs ++ r ∷ []) w
-    resolved_more = of_told (rs ++ r ∷ []) w (subst (λ es. IsToldOf (rs ++ r ∷ []) es w) (sym (entries_of-push rs r)) both.0)
+  -- A record's count of its class, or of its expired entries, has no room: with the record the counts are past their limits.
+  pub record_stopped : (count_of_class r v.counts ≡ 18446744073709551615) ⊎ IsExpiredOver v.min_valid r v.counts → IsResolvable (taken_after v.min_valid t r) → ⊥
+  record_stopped (inl o) w =
+      class_past v.min_valid t r (told_alone (tally (entries_of t.kept))) (told_alone (tally (entries_of (taken_after v.min_valid t r).kept)))
+      (sym (ap (count_of_class r) h.counted) ∙ o) (class_within (known_counts_of (taken_after v.min_valid t r)) w.counts r)
+  record_stopped (inr (inl o)) w = let few = w.counts.expired_samples in let is = ap (λ (n : Counts). n.expired_samples) h.counted in omega (arith, few, is, o)
+  record_stopped (inr (inr o)) w = let few = w.counts.expired_stones in let is = ap (λ (n : Counts). n.expired_stones) h.counted in omega (arith, few, is, o)
 
-    pub items_more : resolved (entries_of (rs ++ r ∷ [])) ≡ resolved (entries_of rs) ++ xs
-    items_more = ap resolved (entries_of-push rs r) ∙ both.1
-
-  -- The count of the record's class has no room: with the record the counts are past their limits.
-  pub class_stopped : count_of_class r v.counts ≡ 18446744073709551615 → IsResolvable (rs ++ r ∷ []) → ⊥
-  class_stopped o w =
-      class_past rs r (told_alone (tally (entries_of rs))) (told_alone (tally (entries_of (rs ++ r ∷ []))))
-      (sym (ap (count_of_class r) h.counted) ∙ o) (class_within (known_counts_of (rs ++ r ∷ [])) w.counts r)
-
--- What was read is followed by an entry that is over a limit: no records with these entries, and whatever is behind them, are within the limits.
-module _ (a b c d : ℕ) {es : List Entry} {m : ResolverValue} (h : IsToldBy a b c d es m) (e : Entry) (more_entries : List Entry) (rs : List WalRecord) (are : entries_of rs ≡ es ++ e ∷ more_entries) (w : IsResolvable rs) where
-  split : entries_of rs ≡ (es ++ e ∷ []) ++ more_entries
+-- What was read is followed by an entry that is over a limit: nothing that was taken with these entries, and whatever is behind them, is
+-- within the limits.
+module _ (base : Counts) {es : List Entry} {m : ResolverValue} (h : IsToldBy base es m) (e : Entry) (more_entries : List Entry) (t : Taken) (are : entries_of t.kept ≡ es ++ e ∷ more_entries) (w : IsResolvable t) where
+  split : entries_of t.kept ≡ (es ++ e ∷ []) ++ more_entries
   split = are ∙ sym (append_assoc es (e ∷ []) more_entries)
 
   -- the count of the entry's fate, which needs no column to tell, has no room
   fate_stopped : (f : Fate) → ((n : Fate → ℕ) → told_alone n f ≡ n f) → fate_at es e ≡ f → count_of_fate f m.counts ≡ 18446744073709551615 → ⊥
   fate_stopped f alone at o =
-      let n : tally es f ≡ 18446744073709551615 = sym (ap (count_of_fate f) h.counted ∙ count_at a b c d (told_alone (tally es)) f ∙ alone (tally es)) ∙ o in
-      let one : tally (es ++ e ∷ []) f ≡ tally es f + 1 = count_more f es e ∙ ap (λ t. tally es f + (if t then 1 else 0)) (ap (is_fate f) at ∙ same_fate f) in
+      let n : tally es f ≡ 18446744073709551615 = sym (ap (count_of_fate f) h.counted ∙ count_at base (told_alone (tally es)) f ∙ alone (tally es)) ∙ o in
+      let one : tally (es ++ e ∷ []) f ≡ tally es f + 1 = count_more f es e ∙ ap (λ b. tally es f + (if b then 1 else 0)) (ap (is_fate f) at ∙ same_fate f) in
       let front = fates_front f (es ++ e ∷ []) more_entries in
-      let all : count_of_fate f (known_counts_of rs) ≡ tally ((es ++ e ∷ []) ++ more_entries) f =
-      count_at (count_by is_series rs) (count_by is_samples rs) (count_by is_stones rs) (count_by is_skipped rs) (told_alone (tally (entries_of rs))) f ∙ alone (tally (entries_of rs)) ∙ ap (λ fs. tally fs f) split in
-      let few = fate_within (known_counts_of rs) w.counts f in
+      let all : count_of_fate f (known_counts_of t) ≡ tally ((es ++ e ∷ []) ++ more_entries) f =
+      count_at (counts_of t) (told_alone (tally (entries_of t.kept))) f ∙ alone (tally (entries_of t.kept)) ∙ ap (λ fs. tally fs f) split in
+      let few = fate_within (known_counts_of t) w.counts f in
       omega (arith, n, one, front, all, few)
 
   item_stopped : (r : ℕ) (i : Item) → fate_at es e ≡ item_fate es (owner es r) i → ((n : Fate → ℕ) → told_alone n (unknown_fate i) ≡ n (unknown_fate i)) → IsItemStopped (slot_at m.table r) i m.counts → ⊥
@@ -196,25 +197,28 @@ module _ (a b c d : ℕ) {es : List Entry} {m : ResolverValue} (h : IsToldBy a b
   stopped : IsStopped m e → ⊥
   stopped s = by s.over where
     by : IsOverTable m.table e ⊎ IsCountStopped m.table e m.counts → ⊥
-    by (inl o) = over_table es m.table e more_entries (entries_of rs) h.shown s.limit are w.series w.texts o
+    by (inl o) = over_table es m.table e more_entries (entries_of t.kept) h.shown s.limit are w.series w.texts o
     by (inr o) = count_stopped o
 
 -- A record was counted and some of its entries were read, and the next is over a limit: with the record, what the records say is past the limits.
-pub entries_stopped : {rs : List WalRecord} {v : ResolverValue} → IsResolved rs v → (r : WalRecord) → IsStoppedIn (record v { counts = with_record r v.counts }) (entries_in r) → IsResolvable (rs ++ r ∷ []) → ⊥
-entries_stopped {rs} {v} h r s w =
-    let a = count_by is_series (rs ++ r ∷ []) in
-    let b = count_by is_samples (rs ++ r ∷ []) in
-    let c = count_by is_stones (rs ++ r ∷ []) in
-    let d = count_by is_skipped (rs ++ r ∷ []) in
-    stopped a b c d (resolves_told a b c d s.front (counted_told h r) s.read).0 s.next s.rest (rs ++ r ∷ []) (entries_split rs r s.front s.next s.rest s.whole) w s.stopped
+pub entries_stopped : {t : Taken} {v : ResolverValue} → IsResolved t v → (r : WalRecord) → IsStoppedIn (record v { counts = with_expired v.min_valid r (with_record r v.counts) }) (entries_in (valid_in v.min_valid r))
+    → IsResolvable (taken_after v.min_valid t r) → ⊥
+entries_stopped {t} {v} h r s w =
+    let next = taken_after v.min_valid t r in
+    stopped (counts_of next) (resolves_told (counts_of next) s.front (counted_told h r) s.read).0 s.next s.rest next (entries_split t.kept (valid_in v.min_valid r) s.front s.next s.rest s.whole) w s.stopped
 
 -- What a resolver can show is within the limits.
-pub resolvable : (rs : List WalRecord) (v : ResolverValue) → IsResolved rs v → length v.table.series ≤ 4294967295 → length v.table.texts ≤ 4294967295 → AreCountsWithin v.counts → IsResolvable rs
-resolvable rs v h few_series few_texts few_counts = record {
+pub resolvable : (t : Taken) (v : ResolverValue) → IsResolved t v → length v.table.series ≤ 4294967295 → length v.table.texts ≤ 4294967295 → AreCountsWithin v.counts → IsResolvable t
+resolvable t v h few_series few_texts few_counts = record {
   series = subst (λ ss. length ss ≤ 4294967295) h.shown.series few_series;
   texts = subst (λ ts. length ts ≤ 4294967295) (h.shown.texts ∙ ap (λ ss. distinct same_text (flat_map texts_of ss)) h.shown.series) few_texts;
   counts = subst AreCountsWithin h.counted few_counts;
 }
+
+-- entries leave the least valid time
+pub resolves_time : {v w : ResolverValue} {es : List Entry} {xs : List (ℕ × Item)} → Resolves v es xs w → w.min_valid ≡ v.min_valid
+resolves_time none = refl
+resolves_time (more es xs m e ys w t s) = s.min_valid ∙ resolves_time t
 
 -- one entry more of those that a record lists, as a loop reads them
 pub resolves_at : {A : Type 0} (f : A → Entry) (xs : List A) (i : ℕ) (x : A) {v m w : ResolverValue} {is js : List (ℕ × Item)} → i < length xs → x ≡ get_or xs i x

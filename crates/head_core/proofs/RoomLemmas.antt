@@ -1,5 +1,5 @@
 -- The room of a head, before and after one entry.
-use Rattle.std.proofs.Common.{◌≡◌, ℕ, zero, suc, ◌+◌, ◌<◌, ◌≤◌, ◌⊎◌, inl, inr, Bool, true, false, List, [], ◌∷◌, ◌++◌, Option, Some, None, ap, sym, subst, ◌∙◌, refl, arith, append_assoc, length, length-append, take, drop, get_or}
+use Rattle.std.proofs.Common.{◌≡◌, ℕ, ℤ, zero, suc, ◌+◌, ◌<◌, ◌≤◌, ◌⊎◌, inl, inr, Bool, true, false, List, [], ◌∷◌, ◌++◌, Option, Some, None, ap, sym, subst, ◌∙◌, refl, arith, append_assoc, length, length-append, take, drop, get_or}
 use Rattle.std.proofs.Math.Path.{fun_ext}
 use Rattle.std.proofs.Math.Dec.{eqb-suc-suc}
 use Rattle.std.specs.Prelude.{All, cond, map, count_by, nat_eq, slice_get, slice_set, if◌then◌else◌}
@@ -11,6 +11,7 @@ use Rattle.wal_record.specs.declared.record.StoneEntry.{StoneEntry}
 use Rattle.wal_record.specs.declared.record.SeriesEntry.{SeriesEntry}
 use Rattle.wal_record.specs.Labels.{same_labels}
 use Rattle.wal_record.specs.Entries.{Entry, series, sample, stone}
+use Rattle.wal_record.specs.Validity.{raised}
 use Rattle.head_column.specs.Histories.{ColumnValue, no_history}
 use Rattle.head_series.specs.Texts.{place, with_texts, texts_of}
 use Rattle.head_series.specs.Table.{Labels, Table, slot_at, has_series, with_series, IsWith, IsFull}
@@ -19,13 +20,11 @@ use Rattle.head_series.specs.Room as table_room
 use Rattle.head_postings.specs.Room as postings_room
 use Rattle.head_core.specs.declared.counts.Counts.{Counts}
 use Rattle.head_core.specs.Owners.{bindings}
-use Rattle.wal_record.specs.declared.record.WalRecord.{WalRecord}
-use Rattle.wal_record.specs.declared.record.WalRecord.TheVariants.{Series, Samples, Stones, Other}
 use Rattle.head_core.specs.Content.{Content}
-use Rattle.head_core.specs.Counts.{count_of_class, sample_item, stone_item, Fate, bound, accepted, stale, unknown, hides, empty_stone, unknown_stone}
+use Rattle.head_core.specs.Counts.{sample_item, stone_item, Fate, bound, accepted, stale, unknown, hides, empty_stone, unknown_stone}
 use Rattle.head_core.specs.Heads.{ColumnRoom, HeadValue}
-use Rattle.head_core.specs.Steps.{count_of_fate, found, told_item, with_fate, with_record, told, Takes, none, more}
-use Rattle.head_core.specs.Room.{CanPut, sets_of, pointed, to_slot, targets, spare_at, HaveSpare, Made, spares_with, HaveCounts, HaveClasses, HasRoom, PutUses}
+use Rattle.head_core.specs.Steps.{count_of_fate, found, told_item, with_fate, told}
+use Rattle.head_core.specs.Room.{CanPut, sets_of, pointed, to_slot, targets, spare_at, HaveSpare, Made, spares_with, HaveCounts, HasRoom, PutUses}
 
 -- behind two lists that are as long, others stand alike
 pub spare_append : (xs ys zs : List ℕ) (n : ℕ → ℕ) → length ys ≡ length xs → ((s : ℕ) → spare_at xs s ≤ spare_at ys s + n s) → (s : ℕ) → spare_at (xs ++ zs) s ≤ spare_at (ys ++ zs) s + n s
@@ -141,6 +140,44 @@ put_none h k r is = record {
   columns = ap (λ (x : ColumnRoom). x.columns) is;
   length = ap (λ (x : ColumnRoom). length x.spares) is;
   spares = λ s. subst (λ (x : ColumnRoom). spare_at h.room.spares s ≤ spare_at x.spares s + count_by (nat_eq s) (to_slot (slot_at h.content.table r) [])) (sym is) (omega arith);
+}
+
+-- room for an item that is left out is room for the others
+pub without_sample : (h : HeadValue) (m : Made) (x : SampleEntry) (es : List Entry) → HasRoom h m (sample x ∷ es) → HasRoom h m es
+without_sample h m x es have = record {
+  ready = have.ready;
+  table = have.table;
+  postings = have.postings;
+  columns = have.columns;
+  made = have.made;
+  unused = have.unused;
+  spares = λ s. let a = have.spares s in let b = count_to s (slot_at h.content.table x.reference) (targets h.content.table.series (slot_at h.content.table) es) in omega (arith, a, b);
+  counts = λ f. let a = have.counts f in omega (arith, a);
+}
+
+pub without_stone : (h : HeadValue) (m : Made) (x : StoneEntry) (es : List Entry) → HasRoom h m (stone x ∷ es) → HasRoom h m es
+without_stone h m x es have = record {
+  ready = have.ready;
+  table = have.table;
+  postings = have.postings;
+  columns = have.columns;
+  made = have.made;
+  unused = have.unused;
+  spares = λ s. let a = have.spares s in let b = count_to s (slot_at h.content.table x.reference) (targets h.content.table.series (slot_at h.content.table) es) in omega (arith, a, b);
+  counts = λ f. let a = have.counts f in omega (arith, a);
+}
+
+-- a deletion that is raised takes the room of the whole
+pub raised_room : (h : HeadValue) (m : Made) (t : ℤ) (x : StoneEntry) (es : List Entry) → HasRoom h m (stone x ∷ es) → HasRoom h m (stone (raised t x) ∷ es)
+raised_room h m t x es have = record {
+  ready = have.ready;
+  table = have.table;
+  postings = have.postings;
+  columns = have.columns;
+  made = have.made;
+  unused = have.unused;
+  spares = have.spares;
+  counts = have.counts;
 }
 
 -- room for the entries behind a sample
@@ -296,115 +333,6 @@ bound_left h k m n e es s have first table postings columns spares unused grown 
       (subst (λ xs. HaveSpare xs (targets h.content.table.series (slot_at h.content.table) (series e ∷ es))) (sym spares) have.spares);
   counts = counts_left h.content.counts k.content.counts bound (series e) es counts have.counts;
 }
-
--- the counts of entries, where a record was counted
-same_fates : (f : Fate) (r : WalRecord) (c : Counts) → count_of_fate f (with_record r c) ≡ count_of_fate f c
-same_fates bound (Series es) c = refl
-same_fates bound (Samples ss) c = refl
-same_fates bound (Stones ds) c = refl
-same_fates bound (Other kind) c = refl
-same_fates accepted (Series es) c = refl
-same_fates accepted (Samples ss) c = refl
-same_fates accepted (Stones ds) c = refl
-same_fates accepted (Other kind) c = refl
-same_fates stale (Series es) c = refl
-same_fates stale (Samples ss) c = refl
-same_fates stale (Stones ds) c = refl
-same_fates stale (Other kind) c = refl
-same_fates unknown (Series es) c = refl
-same_fates unknown (Samples ss) c = refl
-same_fates unknown (Stones ds) c = refl
-same_fates unknown (Other kind) c = refl
-same_fates hides (Series es) c = refl
-same_fates hides (Samples ss) c = refl
-same_fates hides (Stones ds) c = refl
-same_fates hides (Other kind) c = refl
-same_fates empty_stone (Series es) c = refl
-same_fates empty_stone (Samples ss) c = refl
-same_fates empty_stone (Stones ds) c = refl
-same_fates empty_stone (Other kind) c = refl
-same_fates unknown_stone (Series es) c = refl
-same_fates unknown_stone (Samples ss) c = refl
-same_fates unknown_stone (Stones ds) c = refl
-same_fates unknown_stone (Other kind) c = refl
-
--- the counts of records, where an entry was counted
-same_classes : (q : WalRecord) (f : Fate) (c : Counts) → count_of_class q (with_fate f c) ≡ count_of_class q c
-same_classes (Series es) bound c = refl
-same_classes (Series es) accepted c = refl
-same_classes (Series es) stale c = refl
-same_classes (Series es) unknown c = refl
-same_classes (Series es) hides c = refl
-same_classes (Series es) empty_stone c = refl
-same_classes (Series es) unknown_stone c = refl
-same_classes (Samples ss) bound c = refl
-same_classes (Samples ss) accepted c = refl
-same_classes (Samples ss) stale c = refl
-same_classes (Samples ss) unknown c = refl
-same_classes (Samples ss) hides c = refl
-same_classes (Samples ss) empty_stone c = refl
-same_classes (Samples ss) unknown_stone c = refl
-same_classes (Stones ds) bound c = refl
-same_classes (Stones ds) accepted c = refl
-same_classes (Stones ds) stale c = refl
-same_classes (Stones ds) unknown c = refl
-same_classes (Stones ds) hides c = refl
-same_classes (Stones ds) empty_stone c = refl
-same_classes (Stones ds) unknown_stone c = refl
-same_classes (Other kind) bound c = refl
-same_classes (Other kind) accepted c = refl
-same_classes (Other kind) stale c = refl
-same_classes (Other kind) unknown c = refl
-same_classes (Other kind) hides c = refl
-same_classes (Other kind) empty_stone c = refl
-same_classes (Other kind) unknown_stone c = refl
-
--- one record raises each count of records by one at most
-one_class : (q r : WalRecord) (c : Counts) → count_of_class q (with_record r c) ≤ count_of_class q c + 1
-one_class (Series es) (Series es2) c = omega arith
-one_class (Series es) (Samples ss2) c = omega arith
-one_class (Series es) (Stones ds2) c = omega arith
-one_class (Series es) (Other kind2) c = omega arith
-one_class (Samples ss) (Series es2) c = omega arith
-one_class (Samples ss) (Samples ss2) c = omega arith
-one_class (Samples ss) (Stones ds2) c = omega arith
-one_class (Samples ss) (Other kind2) c = omega arith
-one_class (Stones ds) (Series es2) c = omega arith
-one_class (Stones ds) (Samples ss2) c = omega arith
-one_class (Stones ds) (Stones ds2) c = omega arith
-one_class (Stones ds) (Other kind2) c = omega arith
-one_class (Other kind) (Series es2) c = omega arith
-one_class (Other kind) (Samples ss2) c = omega arith
-one_class (Other kind) (Stones ds2) c = omega arith
-one_class (Other kind) (Other kind2) c = omega arith
-
-takes_classes : (q : WalRecord) {c d : Content} (es : List Entry) → Takes c es d → count_of_class q d.counts ≡ count_of_class q c.counts
-takes_classes q es none = refl
-takes_classes q {c} {d} es (more fs m e k t s) = ap (count_of_class q) s.counts ∙ same_classes q (told m.table m.histories e) m.counts ∙ takes_classes q fs t
-
--- the room where a record was counted
-pub room_counted : (h k : HeadValue) (m : Made) (r : WalRecord) (es : List Entry) → k.content ≡ record h.content { counts = with_record r h.content.counts } → k.room ≡ h.room → HasRoom h m es → HasRoom k m es
-room_counted h k m r es content room have =
-    subst (λ (x : Content). HasRoom (record { content = x; failed = k.failed; room = k.room }) m es) (sym content)
-    (subst (λ (x : ColumnRoom). HasRoom (record { content = record h.content { counts = with_record r h.content.counts }; failed = k.failed; room = x }) m es) (sym room)
-    (record {
-      ready = have.ready;
-      table = have.table;
-      postings = have.postings;
-      columns = have.columns;
-      made = have.made;
-      unused = have.unused;
-      spares = have.spares;
-      counts = λ f. subst (λ n. n + length es ≤ 18446744073709551615) (sym (same_fates f r h.content.counts)) (have.counts f);
-    }))
-
--- the counts of records, where one was counted and its entries were taken
-pub classes_left : (c : Content) (d : Content) (r : WalRecord) (rs : List WalRecord) (es : List Entry) → HaveClasses c.counts (r ∷ rs) → Takes (record c { counts = with_record r c.counts }) es d → HaveClasses d.counts rs
-classes_left c d r rs es have t q =
-    let a = have q in
-    let b = one_class q r c.counts in
-    let e = takes_classes q es t in
-    omega (arith, a, b, e)
 
 -- the first of a list, as a loop reads it
 pub drop_at : {A B : Type 0} (f : A → B) (xs : List A) (i : ℕ) (x : A) → i < length xs → x ≡ get_or xs i x → map f (drop i xs) ≡ f x ∷ map f (drop (i + 1) xs)

@@ -1,8 +1,10 @@
 pub mod Owners
+pub mod Taken
 pub mod Counts
 pub mod Content
 pub mod Steps
 pub mod Resolved
+pub mod Validity
 pub mod Resolving
 pub mod Applied
 pub mod Heads

@@ -3,7 +3,6 @@ use Rattle.std.specs.Prelude.{◌≡◌, ◌≤◌, ℕ, ℤ, Bool, List, [], �
 use Rattle.std.specs.List.{flat_map}
 use Rattle.std.specs.Option.{option_and_then}
 use Rattle.hw_bytes.specs.Lists.{along, distinct}
-use Rattle.wal_record.specs.declared.record.WalRecord.{WalRecord}
 use Rattle.wal_record.specs.Labels.{same_labels, same_text}
 use Rattle.wal_record.specs.Entries.{Entry, series, sample, stone, entries_of}
 use Rattle.head_column.specs.declared.items.Item.{Item}
@@ -15,13 +14,15 @@ use Rattle.head_series.specs.Bindings.{IsTableOf, series_of}
 use Rattle.head_postings.specs.Postings.{Lists}
 use Rattle.head_core.specs.declared.counts.Counts.{Counts}
 use Rattle.head_core.specs.Owners.{bindings, owner}
+use Rattle.head_core.specs.Taken.{Taken}
 use Rattle.head_core.specs.Counts.{sample_item, stone_item, counts_of}
 use Rattle.head_core.specs.Content.{Content, AreCountsWithin, series_limit}
 
--- What a resolver shows: its series and references, its counts, and whether it has failed.
+-- What a resolver shows: its series and references, its counts, its least valid time, and whether it has failed.
 pub record ResolverValue : Type 0 where
   pub table : Table
   pub counts : Counts
+  pub min_valid : ℤ
   pub failed : Bool
 
 -- The slot of a reference's owner after these entries, if it has one: the owner's place among the series. Later entries move no series.
@@ -42,20 +43,20 @@ items_at before (stone d) = with_slot (slot_behind before d.reference) (stone_it
 abbrev pub resolved : List Entry → List (ℕ × Item)
 resolved es = along items_at es
 
--- the counts of these records, except for the outcomes, which only columns can tell
-abbrev pub known_counts_of : List WalRecord → Counts
-known_counts_of rs = record (counts_of rs) { accepted = 0; stale = 0; hiding = 0; empty_stones = 0 }
+-- the counts of what was taken of a log, except for the outcomes, which only columns can tell
+abbrev pub known_counts_of : Taken → Counts
+known_counts_of t = record (counts_of t) { accepted = 0; stale = 0; hiding = 0; empty_stones = 0 }
 
--- These are the series, the references and the counts of the records, read one after another.
-pub record IsResolved (rs : List WalRecord) (v : ResolverValue) : Type 0 where
-  pub shown : IsTableOf (bindings (entries_of rs)) v.table
-  pub counted : v.counts ≡ known_counts_of rs
+-- These are the series, the references and the counts of what was taken of a log.
+pub record IsResolved (t : Taken) (v : ResolverValue) : Type 0 where
+  pub shown : IsTableOf (bindings (entries_of t.kept)) v.table
+  pub counted : v.counts ≡ known_counts_of t
 
 -- These are within the limits of a head: the series, the distinct label texts, and each count.
-pub record IsResolvable (rs : List WalRecord) : Type 0 where
-  pub series : length (series_of (bindings (entries_of rs))) ≤ series_limit
-  pub texts : length (distinct same_text (flat_map texts_of (series_of (bindings (entries_of rs))))) ≤ series_limit
-  pub counts : AreCountsWithin (known_counts_of rs)
+pub record IsResolvable (t : Taken) : Type 0 where
+  pub series : length (series_of (bindings (entries_of t.kept))) ≤ series_limit
+  pub texts : length (distinct same_text (flat_map texts_of (series_of (bindings (entries_of t.kept))))) ≤ series_limit
+  pub counts : AreCountsWithin (known_counts_of t)
 
 -- the four counts of the outcomes are the same
 pub record HaveOutcomes (c d : Counts) : Type 0 where
@@ -80,4 +81,5 @@ assembled v histories counts postings = record {
   postings = postings;
   max_time = greatest (times_in histories);
   counts = with_outcomes v.counts counts;
+  min_valid = v.min_valid;
 }

@@ -31,6 +31,7 @@ pub record IsResolving (v : ResolverValue) (e : Entry) (items : List (ℕ × Ite
   pub table : IsTableAfter v.table e w.table
   pub items_are : items ≡ items_by v.table e
   pub counts : w.counts ≡ with_entry v.table e v.counts
+  pub min_valid : w.min_valid ≡ v.min_valid
 
 -- what is shown before and after some entries, read one after another, and their items with their slots
 pub data Resolves (v : ResolverValue) : List Entry → List (ℕ × Item) → ResolverValue → Type 0 where

@@ -62,6 +62,11 @@ HaveCounts counts es = (f : Fate) → count_of_fate f counts + length es ≤ cou
 abbrev pub HaveClasses : Counts → List WalRecord → Type 0
 HaveClasses counts rs = (r : WalRecord) → count_of_class r counts + length rs ≤ count_limit
 
+-- No count of expired entries passes its limit, whatever number of the entries is expired.
+pub record HaveExpired (counts : Counts) (es : List Entry) : Type 0 where
+  pub samples : counts.expired_samples + length es ≤ count_limit
+  pub stones : counts.expired_stones + length es ≤ count_limit
+
 -- These entries can be taken in turn, with what was made for them, without allocating.
 pub record HasRoom (h : HeadValue) (m : Made) (es : List Entry) : Type 0 where
   pub ready : m.ready ≡ sets_of es
@@ -78,12 +83,14 @@ pub record IsReserved (h : HeadValue) (m : Made) (rs : List WalRecord) : Type 0 
   pub sound : h.failed ≡ false
   pub room : HasRoom h m (entries_of rs)
   pub classes : HaveClasses h.content.counts rs
+  pub expired : HaveExpired h.content.counts (entries_of rs)
 
 -- The content with these records is within the limits of series and texts, and no count can pass its limit.
 pub record Fits (c : Content) (rs : List WalRecord) : Type 0 where
   pub table : table_room.Fits c.table.most c.table.series c.table.texts (bindings (entries_of rs))
   pub counts : HaveCounts c.counts (entries_of rs)
   pub classes : HaveClasses c.counts rs
+  pub expired : HaveExpired c.counts (entries_of rs)
 
 -- The item can be taken without allocating: the column of its reference has room for it, and so has its count. A word of proofs, which no
 -- public contract cites.

@@ -1,10 +1,11 @@
 -- What one entry does to the content of a head. Mostly words of proofs and of private functions; docs/DEFINITIONS.md lists those that
 -- public contracts cite.
-use Rattle.std.specs.Prelude.{◌≡◌, ℕ, ◌+◌, ℤ, true, false, List, [], ◌∷◌, ◌++◌, ◌⊎◌, Option, None, Some, length, slice_get, slice_set, if◌then◌else◌}
+use Rattle.std.specs.Prelude.{◌≡◌, ℕ, ◌+◌, ◌<◌, ℤ, true, false, List, [], ◌∷◌, ◌++◌, ◌⊎◌, Option, None, Some, length, slice_get, slice_set, if◌then◌else◌}
 use Rattle.std.specs.Option.{option_and_then}
 use Rattle.wal_record.specs.declared.record.WalRecord.{WalRecord}
 use Rattle.wal_record.specs.declared.record.WalRecord.TheVariants.{Series, Samples, Stones, Other}
 use Rattle.wal_record.specs.Entries.{Entry, series, sample, stone}
+use Rattle.wal_record.specs.Validity.{expired_samples, expired_stones}
 use Rattle.head_column.specs.declared.items.Item.{Item}
 use Rattle.head_column.specs.declared.items.Item.TheVariants as item
 use Rattle.head_column.specs.Times.{later}
@@ -84,6 +85,17 @@ with_record (Samples ss) c = record c { sample_records = c.sample_records + 1 }
 with_record (Stones ds) c = record c { stone_records = c.stone_records + 1 }
 with_record (Other kind) c = record c { skipped_records = c.skipped_records + 1 }
 
+-- the counts with the expired entries of one more record, where m is the least valid time
+abbrev pub with_expired : ℤ → WalRecord → Counts → Counts
+with_expired m r c = record c {
+  expired_samples = c.expired_samples + expired_samples m (r ∷ []);
+  expired_stones = c.expired_stones + expired_stones m (r ∷ []);
+}
+
+-- a count of expired entries does not have 64 bits with those of one more record
+abbrev pub IsExpiredOver : ℤ → WalRecord → Counts → Type 0
+IsExpiredOver m r c = (count_limit < c.expired_samples + expired_samples m (r ∷ [])) ⊎ (count_limit < c.expired_stones + expired_stones m (r ∷ []))
+
 -- the number of entries of this fate: the count that `with_fate` raises
 abbrev pub count_of_fate : Fate → Counts → ℕ
 count_of_fate bound c = c.series_entries
@@ -132,6 +144,7 @@ pub record IsItemStep (c : Content) (r : ℕ) (i : Item) (d : Content) : Type 0 
   pub postings : d.postings ≡ c.postings
   pub greatest : d.max_time ≡ max_item (told_item (found c.table c.histories r) i) i c.max_time
   pub counts : d.counts ≡ with_fate (told_item (found c.table c.histories r) i) c.counts
+  pub min_valid : d.min_valid ≡ c.min_valid
 
 -- what is shown before and after one entry
 pub record IsStep (c : Content) (e : Entry) (d : Content) : Type 0 where
@@ -140,6 +153,7 @@ pub record IsStep (c : Content) (e : Entry) (d : Content) : Type 0 where
   pub postings : ArePostingsAfter c.table c.postings e d.postings
   pub greatest : d.max_time ≡ max_after c.table c.histories c.max_time e
   pub counts : d.counts ≡ with_fate (told c.table c.histories e) c.counts
+  pub min_valid : d.min_valid ≡ c.min_valid
 
 -- what is shown before and after some entries, taken one after another
 pub data Takes (c : Content) : List Entry → Content → Type 0 where
@@ -160,6 +174,8 @@ no_counts = record {
   hiding = 0;
   empty_stones = 0;
   unknown_stones = 0;
+  expired_samples = 0;
+  expired_stones = 0;
 }
 
 -- Some of the entries were taken, and then one could not be.

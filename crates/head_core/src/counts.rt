@@ -1,10 +1,10 @@
 //! The counts of records and of entries, by kind.
 
-ghost use Rattle.std.specs.Prelude.{◌≡◌, ◌↔◌, ◌+◌, ◌<◌, ◌≤◌, [], All, Err, None, IfSome, IsOk, IsTrue, OnErr, OnOk, length};
+ghost use Rattle.std.specs.Prelude.{◌≡◌, ◌↔◌, ◌⊎◌, ◌+◌, ◌<◌, ◌≤◌, [], All, Err, None, IfOk, IfSome, IsOk, IsTrue, OnErr, OnOk, length};
 ghost use Rattle.wal_record.specs.Entries.{entries_in, entries_of};
 ghost use Rattle.head_core.specs.Content.{count_limit};
 ghost use Rattle.head_core.specs.Counts.{fate_of, unknown_fate};
-ghost use Rattle.head_core.specs.Room.{HaveClasses, HaveCounts};
+ghost use Rattle.head_core.specs.Room.{HaveClasses, HaveCounts, HaveExpired};
 ghost use Rattle.head_core.specs.Steps.{count_of_fate, no_counts, with_fate};
 
 use crate::fault::HeadFault;
@@ -12,7 +12,7 @@ use head_column::{Item, Outcome};
 use wal_record::WalRecord;
 
 /// The numbers of a log's records by type, and of its entries by what became of them, in the order in which they are printed. A deletion
-/// is a *stone*.
+/// is a *stone*. Entries before the least valid time are *expired*, and counted as nothing else.
 #[derive(Clone, Copy, Debug, PartialEq, Eq)]
 pub struct Counts {
     pub series_records: u64,
@@ -26,6 +26,8 @@ pub struct Counts {
     pub hiding: u64,
     pub empty_stones: u64,
     pub unknown_stones: u64,
+    pub expired_samples: u64,
+    pub expired_stones: u64,
 }
 
 // Adds 1 to a count, or returns `Full` if it is 2^64 - 1.
@@ -44,6 +46,18 @@ pub(crate) fn one_more(count: &mut u64) -> Result<(), HeadFault>
         }
         None => Err(HeadFault::Full),
     }
+}
+
+// Returns the sum of a count and a number, or `Full` if it does not fit in 64 bits.
+fn sum(count: u64, more: usize) -> Result<u64, HeadFault>
+    ensures sum { IfOk result (λ sum. sum ≡ count + more) }
+    ensures full { result ≡ Err HeadFault.Full → count_limit < count + more }
+    ensures few { count + more ≤ count_limit → IsOk result }
+    ensures nothing { more ≡ 0 → IsOk result }
+    ensures fault { result ≡ Err HeadFault.Memory → ⊥ }
+    ensures sound { result ≡ Err HeadFault.Failed → ⊥ }
+{
+    count.checked_add(more as u64).ok_or(HeadFault::Full)
 }
 
 // Returns the number of entries of a record.
@@ -100,6 +114,8 @@ impl Counts {
             hiding: 0,
             empty_stones: 0,
             unknown_stones: 0,
+            expired_samples: 0,
+            expired_stones: 0,
         }
     }
 
@@ -107,8 +123,9 @@ impl Counts {
     pub(crate) fn check_room(&self, records: &[WalRecord]) -> Result<(), HeadFault>
         ensures counts { OnOk result (HaveCounts self.now (entries_of records.now)) }
         ensures classes { OnOk result (HaveClasses self.now records.now) }
-        ensures full { result ≡ Err HeadFault.Full → HaveCounts self.now (entries_of records.now) → HaveClasses self.now records.now → ⊥ }
-        ensures limit { (HaveCounts self.now (entries_of records.now) × HaveClasses self.now records.now → ⊥) → result ≡ Err HeadFault.Full }
+        ensures expired { OnOk result (HaveExpired self.now (entries_of records.now)) }
+        ensures full { result ≡ Err HeadFault.Full → HaveCounts self.now (entries_of records.now) → HaveExpired self.now (entries_of records.now) → HaveClasses self.now records.now → ⊥ }
+        ensures limit { (HaveCounts self.now (entries_of records.now) × HaveExpired self.now (entries_of records.now) × HaveClasses self.now records.now → ⊥) → result ≡ Err HeadFault.Full }
         ensures nothing { records.now ≡ [] → IsOk result }
         ensures fault { result ≡ Err HeadFault.Memory → ⊥ }
         ensures sound { result ≡ Err HeadFault.Failed → ⊥ }
@@ -131,10 +148,14 @@ impl Counts {
             self.empty_stones,
             self.unknown_stones,
         ];
+        let expired = [self.expired_samples, self.expired_stones];
         if !all_fit(&classes, records.len() as u64) {
             return Err(HeadFault::Full);
         }
         if !all_fit(&fates, entries) {
+            return Err(HeadFault::Full);
+        }
+        if !all_fit(&expired, entries) {
             return Err(HeadFault::Full);
         }
         Ok(())
@@ -154,6 +175,20 @@ impl Counts {
             Outcome::Hidden => one_more(&mut self.hiding),
             Outcome::EmptyStone => one_more(&mut self.empty_stones),
         }
+    }
+
+    // Adds the numbers of expired samples and deletions to their counts.
+    pub(crate) fn add_expired(&mut self, samples: usize, stones: usize) -> Result<(), HeadFault>
+        ensures more { OnOk result (self.new ≡ record self.old { expired_samples = self.old.expired_samples + samples; expired_stones = self.old.expired_stones + stones }) }
+        ensures full { result ≡ Err HeadFault.Full → (count_limit < self.old.expired_samples + samples) ⊎ (count_limit < self.old.expired_stones + stones) }
+        ensures few { self.old.expired_samples + samples ≤ count_limit → self.old.expired_stones + stones ≤ count_limit → IsOk result }
+        ensures nothing { samples ≡ 0 → stones ≡ 0 → IsOk result }
+        ensures fault { result ≡ Err HeadFault.Memory → ⊥ }
+        ensures sound { result ≡ Err HeadFault.Failed → ⊥ }
+    {
+        self.expired_samples = sum(self.expired_samples, samples)?;
+        self.expired_stones = sum(self.expired_stones, stones)?;
+        Ok(())
     }
 
     // Adds 1 to the count of items whose reference has no owner.

@@ -86,7 +86,8 @@ impl Draft {
         entry: &SeriesEntry,
     ) -> Result<(), AllocError>
         ensures same { self.new ≡ record self.old { made = record self.old.made { columns = self.new.made.columns }; series = self.new.series; slots = self.new.slots } }
-        ensures noted { (es : List Entry) → IsNoted table.now.series (slot_at table.now) self.old es → OnOk result (IsNoted table.now.series (slot_at table.now) self.new (es ++ series entry.now ∷ [])) }
+        ensures noted { (es : List Entry) → IsNoted table.now.series (slot_at table.now) self.old es →
+            OnOk result (IsNoted table.now.series (slot_at table.now) self.new (es ++ series entry.now ∷ [])) }
         ensures columns { HaveColumns self.old → OnOk result (HaveColumns self.new) }
         ensures longer { IsLonger self.old.made.columns self.new.made.columns }
     {

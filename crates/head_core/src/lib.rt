@@ -9,6 +9,7 @@ mod counts;
 mod draft;
 mod entries;
 mod fault;
+mod finding;
 mod head;
 mod items;
 mod laws;
@@ -24,8 +25,11 @@ pub use fault::HeadFault;
 pub use head::Head;
 pub use head_column::{Chunk, Column, Hour, Item, Outcome, Run, Sample};
 pub use head_series::Slot;
-pub use laws::{alike_answers, items_make_series, limits_hold_before, one_content, slots_stay};
+pub use laws::{
+    alike_answers, checkpoint, items_make_series, limits_hold_before, one_content, slots_stay,
+    truncation,
+};
 pub use postings::postings_of;
-pub use replay::{ReplayFault, Replayed, replay_serial};
+pub use replay::{ReplayFault, Replayed, replay_serial, replay_serial_from};
 pub use reserved::Reserved;
 pub use resolver::Resolver;

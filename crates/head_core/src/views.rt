@@ -29,6 +29,15 @@ impl Head {
         self.resolver.is_failed()
     }
 
+    /// Returns the least valid time, in milliseconds: that of the replay, or the greatest of later calls of `truncate`. The least time of 64
+    /// bits is no limit.
+    pub fn min_valid(&self) -> i64
+        requires { self.now.failed ≡ false }
+        ensures { result ≡ self.now.content.min_valid }
+    {
+        self.resolver.min_valid()
+    }
+
     /// Returns the counts of the records so far.
     pub fn counts(&self) -> Counts
         requires { self.now.failed ≡ false }

@@ -338,7 +338,8 @@ fn prepare<B: Builder>(
     requires most { workers ≤ 64 }
     requires small { slots + workers < 2 ^ 64 }
     ensures seats { IfOk result (λ r. AreSeats workers r.0.items × (length r.0.items ≡ min slots (2 ^ 32))) }
-    ensures rows { IfOk result (λ r. (length r.1.items ≡ workers) × ((k : ℕ) (d : _) → k < workers → ((slice_index_or r.1.items k d).items ≡ []) × (slots ≤ vec_capacity (slice_index_or r.1.items k d) * workers))) }
+    ensures rows { IfOk result (λ r. (length r.1.items ≡ workers) ×
+        ((k : ℕ) (d : _) → k < workers → ((slice_index_or r.1.items k d).items ≡ []) × (slots ≤ vec_capacity (slice_index_or r.1.items k d) * workers))) }
     ensures parts { IfOk result (λ r. (r.2.items ≡ []) × (workers ≤ vec_capacity r.2)) }
 {
     let seats = make_seats(alloc, workers, slots.min(4_294_967_296))?;
@@ -349,8 +350,10 @@ fn prepare<B: Builder>(
 
 /// The ending of a slot and of its items depends only on the slot's value and its own items.
 pub fn slots_alone<B: Builder>()
-    ensures slots { (t : Course B.Value B.Item B.Outcome) (slot : ℕ) → filter (λ p. p.0 == slot) (end_slots B.after t) ≡ slot_endings B.after (filter (λ p. p.0 == slot) t.slots) (filter (λ job. job.slot == slot) t.jobs) }
-    ensures items { (t : Course B.Value B.Item B.Outcome) (slot : ℕ) → filter (λ job. job.slot == slot) (end_jobs B.after B.outcome t) ≡ job_endings B.after B.outcome (filter (λ p. p.0 == slot) t.slots) (filter (λ job. job.slot == slot) t.jobs) }
+    ensures slots { (t : Course B.Value B.Item B.Outcome) (slot : ℕ) →
+        filter (λ p. p.0 == slot) (end_slots B.after t) ≡ slot_endings B.after (filter (λ p. p.0 == slot) t.slots) (filter (λ job. job.slot == slot) t.jobs) }
+    ensures items { (t : Course B.Value B.Item B.Outcome) (slot : ℕ) →
+        filter (λ job. job.slot == slot) (end_jobs B.after B.outcome t) ≡ job_endings B.after B.outcome (filter (λ p. p.0 == slot) t.slots) (filter (λ job. job.slot == slot) t.jobs) }
 {}
 
 /// The endings of slots and items do not depend on which workers step, or in which order.
@@ -360,8 +363,12 @@ pub fn slots_alone<B: Builder>()
 /// step (`goes_on`).
 pub fn deal_theorem<B: Builder>()
     ensures kept { (workers : List ℕ) (old new : Course B.Value B.Item B.Outcome) → Leads B.after B.outcome workers old new → SameEndings B.after B.outcome old new }
-    ensures ended { (workers : List ℕ) (old new : Course B.Value B.Item B.Outcome) → Leads B.after B.outcome workers old new → AllDone new.jobs → (new.slots ≡ end_slots B.after old) × (new.jobs ≡ end_jobs B.after B.outcome old) }
-    ensures values { (workers : List ℕ) (old new : Course B.Value B.Item B.Outcome) → Leads B.after B.outcome workers old new → AllDone new.jobs → map (λ p. p.1) new.slots ≡ ending_values B.after old }
-    ensures outcomes { (workers : List ℕ) (old new : Course B.Value B.Item B.Outcome) → Leads B.after B.outcome workers old new → AllDone new.jobs → outcomes new.jobs ≡ ending_outcomes B.after B.outcome old }
-    ensures goes_on { (worker place : ℕ) (t : Course B.Value B.Item B.Outcome) (job : Job B.Item B.Outcome) → slice_get t.jobs place ≡ Some job → is_queued job.state ≡ true → job.slot % t.workers ≡ worker → front worker t ≢ None }
+    ensures ended { (workers : List ℕ) (old new : Course B.Value B.Item B.Outcome) → Leads B.after B.outcome workers old new → AllDone new.jobs →
+        (new.slots ≡ end_slots B.after old) × (new.jobs ≡ end_jobs B.after B.outcome old) }
+    ensures values { (workers : List ℕ) (old new : Course B.Value B.Item B.Outcome) → Leads B.after B.outcome workers old new → AllDone new.jobs →
+        map (λ p. p.1) new.slots ≡ ending_values B.after old }
+    ensures outcomes { (workers : List ℕ) (old new : Course B.Value B.Item B.Outcome) → Leads B.after B.outcome workers old new → AllDone new.jobs →
+        outcomes new.jobs ≡ ending_outcomes B.after B.outcome old }
+    ensures goes_on { (worker place : ℕ) (t : Course B.Value B.Item B.Outcome) (job : Job B.Item B.Outcome) → slice_get t.jobs place ≡ Some job →
+        is_queued job.state ≡ true → job.slot % t.workers ≡ worker → front worker t ≢ None }
 {}

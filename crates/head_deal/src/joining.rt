@@ -304,7 +304,8 @@ pub fn join_parts<B: Builder>(
     alloc: Global,
     parts: Vec<Part<B>>,
 ) -> Result<Joined<B>, JoinRefused<B>>
-    ensures endings { IfOk result (λ j. (d : _) → IsDeal d → All (IsPartOf B.value B.after B.outcome d) parts.items → (map B.value j.builders.items ≡ ending_values B.after (course B.value d)) × (j.outcomes.items ≡ ending_outcomes B.after B.outcome (course B.value d))) }
+    ensures endings { IfOk result (λ j. (d : _) → IsDeal d → All (IsPartOf B.value B.after B.outcome d) parts.items →
+        (map B.value j.builders.items ≡ ending_values B.after (course B.value d)) × (j.outcomes.items ≡ ending_outcomes B.after B.outcome (course B.value d))) }
     ensures joins { OnOk result (join_fault parts.items ≡ None) }
     ensures known { (fault : JoinFault) → join_fault parts.items ≡ Some fault → IsErrAnd result (λ e. e.fault ≡ fault) }
     ensures refused { IfErr result (λ e. RefusesJoin parts.items e.fault) }
@@ -324,7 +325,8 @@ fn join_sound<B: Builder>(
     mut parts: Vec<Part<B>>,
 ) -> Result<Joined<B>, JoinRefused<B>>
     requires { join_fault parts.items ≡ None }
-    ensures endings { IfOk result (λ j. (d : _) → IsDeal d → All (IsPartOf B.value B.after B.outcome d) parts.items → (map B.value j.builders.items ≡ ending_values B.after (course B.value d)) × (j.outcomes.items ≡ ending_outcomes B.after B.outcome (course B.value d))) }
+    ensures endings { IfOk result (λ j. (d : _) → IsDeal d → All (IsPartOf B.value B.after B.outcome d) parts.items →
+        (map B.value j.builders.items ≡ ending_values B.after (course B.value d)) × (j.outcomes.items ≡ ending_outcomes B.after B.outcome (course B.value d))) }
     ensures memory { IfErr result (λ e. (e.parts.items ≡ parts.items) × (e.fault ≡ JoinFault.Memory)) }
     ensures lone { length parts.items ≡ 1 → IsOk result }
 {

@@ -74,7 +74,8 @@ fn run_dues<B: Builder>(
     requires fit { All (λ due. due.element < length builders.old.items) dues.now.items }
     requires some { length outcomes.old.items ≤ length dues.now.items }
     ensures endings { SameEndings B.after B.outcome (share_lists B.value workers worker builders.old.items (entries worker workers dues.now.items outcomes.old.items)) (share_lists B.value workers worker builders.new.items (entries worker workers dues.now.items outcomes.new.items)) }
-    ensures steps { (n : ℕ) × Leads B.after B.outcome (replicate n worker) (share_lists B.value workers worker builders.old.items (entries worker workers dues.now.items outcomes.old.items)) (share_lists B.value workers worker builders.new.items (entries worker workers dues.now.items outcomes.new.items)) }
+    ensures steps { (n : ℕ) ×
+        Leads B.after B.outcome (replicate n worker) (share_lists B.value workers worker builders.old.items (entries worker workers dues.now.items outcomes.old.items)) (share_lists B.value workers worker builders.new.items (entries worker workers dues.now.items outcomes.new.items)) }
     ensures done { OnOk result (AllDone (entries worker workers dues.now.items outcomes.new.items)) }
     ensures stopped { OnErr result ((place : ℕ) × StoppedAt (entries worker workers dues.now.items outcomes.old.items) (entries worker workers dues.now.items outcomes.new.items) place) }
     ensures builders { length builders.new.items ≡ length builders.old.items }
@@ -219,7 +220,8 @@ pub(crate) fn build_parts<B: Builder>(
     requires seated { (k : ℕ) (d : _) → k < workers → k + length (slice_index_or rows.old.items k d).items * workers < all_slots + workers }
     requires small { all_slots + workers < 2 ^ 64 }
     ensures each { length parts.new.items ≡ workers }
-    ensures built { (k : ℕ) (p : _) (d : _) → k < workers → slice_index_or parts.new.items k p ≡ record { tag = tag; workers = workers; worker = k; all_slots = all_slots; all_jobs = 0; slots = strided k workers (slice_index_or rows.old.items k d).items; jobs = [] } }
+    ensures built { (k : ℕ) (p : _) (d : _) → k < workers →
+        slice_index_or parts.new.items k p ≡ record { tag = tag; workers = workers; worker = k; all_slots = all_slots; all_jobs = 0; slots = strided k workers (slice_index_or rows.old.items k d).items; jobs = [] } }
 {
     for worker in 0..workers {
         let builders = mem::replace(&mut rows[worker], Vec::new(alloc));

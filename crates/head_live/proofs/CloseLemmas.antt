@@ -22,8 +22,8 @@ use Rattle.head_live.specs.declared.verdict.Verdict.TheVariants.{Accepted}
 use Rattle.head_live.specs.Closing.{all_told, new_rows_at, row_of_sample}
 use Rattle.head_live.specs.Placing.{labels_at, placed, row_at}
 use Rattle.head_live.specs.Rows.{Row}
-use Rattle.head_live.specs.Told.{Answer, AppenderState, accepted_rows, answer_of, is_accepted, row_told}
-use Rattle.head_live.specs.Verdicts.{samples_in, samples_at}
+use Rattle.head_live.specs.Told.{Answer, AppenderState, accepted_rows, answer_of, row_told}
+use Rattle.head_live.specs.Verdicts.{is_accepted, samples_in, samples_at}
 use Rattle.head_live.proofs.SetLemmas.{at_place}
 use Rattle.head_live.proofs.OrderLemmas.{placed_whole}
 use Rattle.head_live.proofs.TimeLemmas.{reaches_greatest}

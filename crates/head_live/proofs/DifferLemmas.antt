@@ -14,12 +14,13 @@ use Rattle.head_core.specs.Content.{Content}
 use Rattle.head_core.specs.Heads.{history_at}
 use Rattle.head_live.specs.declared.placed.PlacedSample.{PlacedSample}
 use Rattle.head_live.specs.declared.verdict.Verdict.{Verdict}
-use Rattle.head_live.specs.declared.verdict.Verdict.TheVariants.{Accepted, Stale}
+use Rattle.head_live.specs.declared.verdict.Verdict.TheVariants.{Accepted, Stale, Expired}
 use Rattle.head_live.specs.Closing.{Agrees, Closes, all_told, new_rows, new_rows_at, row_of_sample, shares}
 use Rattle.head_live.specs.Moments.{LiveState, Moment}
 use Rattle.head_live.specs.Placing.{AreInSeries, IsPossible, labels_at, row_at}
 use Rattle.head_live.specs.Rows.{Row}
-use Rattle.head_live.specs.Told.{Answer, AppenderState, accepted_rows, is_accepted}
+use Rattle.head_live.specs.Told.{Answer, AppenderState, accepted_rows}
+use Rattle.head_live.specs.Verdicts.{is_accepted}
 use Rattle.head_live.proofs.CloseLemmas.{found_reached}
 use Rattle.head_live.proofs.SetLemmas.{nowhere, place_at}
 
@@ -49,6 +50,7 @@ accepted_all P (a ∷ told) h = at a.verdict refl h (accepted_all P told) where
       → (All P later → All (λ b. b.verdict ≡ Accepted → P b.row) told) → All (λ b. b.verdict ≡ Accepted → P b.row) (a ∷ told)
   at Accepted e k deep = All-cons (λ b. b.verdict ≡ Accepted → P b.row) a told (λ _. All-head P a.row later k) (deep (All-tail P a.row later k))
   at Stale e k deep = All-cons (λ b. b.verdict ≡ Accepted → P b.row) a told (λ f. let g : Stale ≡ Accepted = sym e ∙ f in absurd cc) (deep k)
+  at Expired e k deep = All-cons (λ b. b.verdict ≡ Accepted → P b.row) a told (λ f. let g : Expired ≡ Accepted = sym e ∙ f in absurd cc) (deep k)
 
 -- each new row has a series
 in_series : (opening now : Content) → All (HasSeries now) (new_rows opening now)
@@ -67,6 +69,7 @@ possible opening now told agrees =
     λ k d lt. record {
       series = series k d lt;
       stale = agrees.stale k d lt;
+      expired = agrees.expired k d lt;
     }
 
 front_all : {A : Type 0} (P : A → Type 0) (xs ys : List A) → All P (xs ++ ys) → All P xs

@@ -13,7 +13,7 @@ use Rattle.wal_record.specs.Labels.{Labels, same_labels}
 use Rattle.head_series.specs.Texts.{place}
 use Rattle.head_core.specs.Content.{Content}
 use Rattle.head_live.specs.Rows.{Row}
-use Rattle.head_live.specs.Verdicts.{accepted, is_stale, samples_in, times_of}
+use Rattle.head_live.specs.Verdicts.{accepted, is_accepted, samples_in, times_of, verdict_on}
 use Rattle.head_live.specs.Batch.{is_missing, new_sets, reference_of, sample_of, series_from}
 use Rattle.head_live.specs.Judged.{given, small}
 use Rattle.head_live.proofs.SetLemmas.{along-append, along-push, any_distinct, any_filter, has_place, no_place, place_kept, place_last, place_other}
@@ -154,11 +154,11 @@ pub new_front : (c : Content) (known : Labels → Option ℕ) (front rest : List
 new_front c known front rest =
     let labels : Row → Labels = λ q. q.labels in
     let missing : Labels → Bool = λ l. is_missing (known l) in
-    let more = along (λ before r. if is_stale c (front ++ before) r then [] else r ∷ []) rest in
+    let more = along (λ before r. if is_accepted (verdict_on c (front ++ before) r) then r ∷ [] else []) rest in
     let some = map labels (accepted c front) in
     let behind = along (λ before. if_new same_labels (some ++ before)) (map labels more) in
     let whole : new_sets known (accepted c (front ++ rest)) ≡ new_sets known (accepted c front) ++ filter missing behind =
-    ap (new_sets known) (along-append (λ before r. if is_stale c before r then [] else r ∷ []) front rest)
+    ap (new_sets known) (along-append (λ before r. if is_accepted (verdict_on c before r) then r ∷ [] else []) front rest)
     ∙ (ap (λ ls. filter missing (distinct same_labels ls)) (map-append labels (accepted c front) more)
     ∙ (ap (filter missing) (along-append (if_new same_labels) some (map labels more))
     ∙ filter-append missing (distinct same_labels some) behind)) in

@@ -1,9 +1,9 @@
--- The greatest of some times, with one more.
+-- Whether one of some times is at or past a time, with one time more.
 use Rattle.std.proofs.Common.{◌≡◌, Bool, true, false, List, [], ◌∷◌, ◌++◌, Option, Some, None, ap, sym, ◌∙◌, refl, arith}
-use Rattle.std.specs.Prelude.{ℤ, ◌||◌, int_le, int_lt, if◌then◌else◌}
+use Rattle.std.specs.Prelude.{ℤ, ◌≤ℤ◌, ◌||◌, int_le, int_lt, if◌then◌else◌}
 use Rattle.std.specs.List.{fold, list_any}
 use Rattle.std.proofs.lemmas.Int.{ints}
-use Rattle.std.proofs.lemmas.List.Sums.{fold-append}
+use Rattle.std.proofs.lemmas.List.Folds.{list_any-append}
 use Rattle.head_column.specs.Times.{greatest, later, reaches}
 
 later_reaches : (t u : ℤ) (b : Bool) → int_lt u t ≡ b → (x : ℤ) → reaches (if b then Some t else Some u) x ≡ (int_le x u || int_le x t)
@@ -29,24 +29,25 @@ from g (t ∷ ts) x = from (later g t) ts x ∙ (ap (λ b. b || list_any (int_le
 pub reaches_greatest : (ts : List ℤ) (x : ℤ) → list_any (int_le x) ts ≡ reaches (greatest ts) x
 reaches_greatest ts x = sym (from None ts x)
 
--- a time that the greatest is at or past changes nothing
-pub greatest_kept : (ts : List ℤ) (t : ℤ) → reaches (greatest ts) t ≡ true → greatest (ts ++ t ∷ []) ≡ greatest ts
-greatest_kept ts t h = fold-append later None ts (t ∷ []) ∙ at (greatest ts) h where
-  under : (u : ℤ) (b : Bool) → int_lt u t ≡ b → int_le t u ≡ true → (if b then Some t else Some u) ≡ Some u
-  under u true e k = absurd (grind (arith, ints))
-  under u false e k = refl
+one_or : (b : Bool) → (b || false) ≡ b
+one_or true = refl
+one_or false = refl
 
-  at : (g : Option ℤ) → reaches g t ≡ true → later g t ≡ g
-  at None k = cc
-  at (Some u) k = under u (int_lt u t) refl k
+-- one of the times is at or past x, with one time more
+pub one_time : (ts : List ℤ) (t x : ℤ) → list_any (int_le x) (ts ++ t ∷ []) ≡ (list_any (int_le x) ts || int_le x t)
+one_time ts t x = list_any-append (int_le x) ts (t ∷ []) ∙ ap (λ b. list_any (int_le x) ts || b) (one_or (int_le x t))
 
--- a time past the greatest is the greatest
-pub greatest_more : (ts : List ℤ) (t : ℤ) → reaches (greatest ts) t ≡ false → greatest (ts ++ t ∷ []) ≡ Some t
-greatest_more ts t h = fold-append later None ts (t ∷ []) ∙ at (greatest ts) h where
-  over : (u : ℤ) (b : Bool) → int_lt u t ≡ b → int_le t u ≡ false → (if b then Some t else Some u) ≡ Some t
-  over u true e k = refl
-  over u false e k = absurd (grind (arith, ints))
+-- a time before m is at or past none that is not
+pub past_expired : (m t x : ℤ) (b : Bool) → int_lt t m ≡ true → m ≤ℤ x → (b || int_le x t) ≡ b
+past_expired m t x true h k = refl
+past_expired m t x false h k = grind (arith, ints)
 
-  at : (g : Option ℤ) → reaches g t ≡ false → later g t ≡ Some t
-  at None k = refl
-  at (Some u) k = over u (int_lt u t) refl k
+-- a time that the last is at or past changes nothing
+pub past_stale : (last : Option ℤ) (t x : ℤ) → reaches last t ≡ true → (reaches last x || int_le x t) ≡ reaches last x
+past_stale None t x h = cc
+past_stale (Some u) t x h = grind (arith, ints)
+
+-- a time past the last is the last
+pub past_accepted : (last : Option ℤ) (t x : ℤ) → reaches last t ≡ false → (reaches last x || int_le x t) ≡ int_le x t
+past_accepted None t x h = refl
+past_accepted (Some u) t x h = grind (arith, ints)

@@ -1,5 +1,6 @@
 -- Words of private functions and of proofs: the entries of rows, and the state while rows are judged.
-use Rattle.std.specs.Prelude.{◌≡◌, ℕ, ℤ, ◌+◌, ◌≤◌, ◌<◌, ◌^◌, List, [], ◌∷◌, All, Option, None, Some, false, length, map, nat_lt, slice_index_or, if◌then◌else◌}
+use Rattle.std.specs.Prelude.{◌≡◌, ◌≤ℤ◌, ℕ, ℤ, ◌+◌, ◌≤◌, ◌<◌, ◌^◌, Bool, ◌||◌, List, [], ◌∷◌, All, Option, None, Some, false, int_le, int_lt, length, map, nat_lt, slice_index_or, if◌then◌else◌}
+use Rattle.std.specs.List.{list_any}
 use Rattle.std.specs.Option.{option_map, option_and_then}
 use Rattle.hw_bytes.specs.Lists.{or_else}
 use Rattle.wal_record.specs.declared.record.SeriesEntry.{SeriesEntry}
@@ -11,7 +12,7 @@ use Rattle.head_series.specs.Table.{IsLeast}
 use Rattle.head_core.specs.Content.{Content}
 use Rattle.head_live.specs.declared.judging.Standing.{Standing}
 use Rattle.head_live.specs.declared.verdict.Verdict.{Verdict}
-use Rattle.head_live.specs.declared.verdict.Verdict.TheVariants.{Accepted, Stale}
+use Rattle.head_live.specs.declared.verdict.Verdict.TheVariants.{Accepted, Stale, Expired}
 use Rattle.head_live.specs.Rows.{Row}
 use Rattle.head_live.specs.Verdicts.{accepted, times_of, verdicts}
 use Rattle.head_live.specs.Batch.{AreReferences, first_reference, is_missing, new_sets, owner_in, sample_of, series_from}
@@ -51,25 +52,29 @@ abbrev pub sample_by : Option ℕ → ℤ → ℤ → List SampleEntry
 sample_by None t v = []
 sample_by (Some r) t v = record { reference = r; time = t; value = v } ∷ []
 
+-- whether a row of a label set with this state is expired or stale, where m is the least valid time
+abbrev pub is_refused : ℤ → Standing → ℤ → Bool
+is_refused m s t = int_lt t m || reaches s.last t
+
 -- the state of a label set after a row of it
-abbrev pub standing_after : Standing → Option ℕ → ℤ → Standing
-standing_after s next t = if reaches s.last t then s else record { reference = or_else s.reference next; last = Some t }
+abbrev pub standing_after : ℤ → Standing → Option ℕ → ℤ → Standing
+standing_after m s next t = if is_refused m s t then s else record { reference = or_else s.reference next; last = Some t }
 
 -- the next reference after a row
-abbrev pub next_after : Standing → Option ℕ → ℤ → Option ℕ
-next_after s next t = if reaches s.last t then next else left_by s.reference next
+abbrev pub next_after : ℤ → Standing → Option ℕ → ℤ → Option ℕ
+next_after m s next t = if is_refused m s t then next else left_by s.reference next
 
 -- the new series by a row
-abbrev pub entry_after : Standing → Option ℕ → Labels → ℤ → List SeriesEntry
-entry_after s next l t = if reaches s.last t then [] else entry_by s.reference next l
+abbrev pub entry_after : ℤ → Standing → Option ℕ → Labels → ℤ → List SeriesEntry
+entry_after m s next l t = if is_refused m s t then [] else entry_by s.reference next l
 
 -- the sample by a row
-abbrev pub sample_after : Standing → Option ℕ → ℤ → ℤ → List SampleEntry
-sample_after s next t v = if reaches s.last t then [] else sample_by (or_else s.reference next) t v
+abbrev pub sample_after : ℤ → Standing → Option ℕ → ℤ → ℤ → List SampleEntry
+sample_after m s next t v = if is_refused m s t then [] else sample_by (or_else s.reference next) t v
 
 -- the verdict on a row
-abbrev pub verdict_after : Standing → ℤ → Verdict
-verdict_after s t = if reaches s.last t then Stale else Accepted
+abbrev pub verdict_after : ℤ → Standing → ℤ → Verdict
+verdict_after m s t = if int_lt t m then Expired else (if reaches s.last t then Stale else Accepted)
 
 -- ---- the states of label sets
 
@@ -111,4 +116,4 @@ pub record Judges (c : Content) (sets : List Labels) (known : Labels → Option 
   pub enough : first_reference c + length (new_sets known taken) ≤ 2 ^ 64
   pub named : All (λ r. is_missing (given known (first_reference c) (new_sets known taken) r.labels) ≡ false) taken
   pub references : (l : Labels) (i : ℕ) → place (same_labels l) sets ≡ Some i → (standing_at ss i).reference ≡ given known (first_reference c) (new_sets known taken) l
-  pub lasts : (l : Labels) (i : ℕ) → place (same_labels l) sets ≡ Some i → (standing_at ss i).last ≡ greatest (times_of c before l)
+  pub lasts : (l : Labels) (i : ℕ) → place (same_labels l) sets ≡ Some i → (t : ℤ) → c.min_valid ≤ℤ t → reaches (standing_at ss i).last t ≡ list_any (int_le t) (times_of c before l)

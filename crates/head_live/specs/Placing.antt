@@ -6,7 +6,7 @@ use Rattle.head_series.specs.Texts.{place}
 use Rattle.head_core.specs.Content.{Content}
 use Rattle.head_live.specs.declared.placed.PlacedSample.{PlacedSample}
 use Rattle.head_live.specs.declared.verdict.Verdict.TheVariants.{Accepted}
-use Rattle.head_live.specs.Closing.{IsStaleIn}
+use Rattle.head_live.specs.Closing.{IsExpiredIn, IsStaleIn}
 use Rattle.head_live.specs.Rows.{Row}
 use Rattle.head_live.specs.Told.{Answer}
 
@@ -34,8 +34,9 @@ IsBefore a b = (a.slot < b.slot) ⊎ ((a.slot ≡ b.slot) × (a.time <ℤ b.time
 abbrev pub sample_counts : Content → List ℕ
 sample_counts c = map (λ h. length h.samples) c.histories
 
--- The head can hold a row with this verdict: if it was told to be accepted, its labels have a series, and if it was told to be stale, its
--- series has a sample at or past its time.
+-- The head can hold a row with this verdict: if it was told to be accepted, its labels have a series; if it was told to be stale, its
+-- series has a sample at or past its time; and if it was told to be expired, its time is before the least valid time.
 pub record IsPossible (c : Content) (a : Answer) : Type 0 where
   pub series : a.verdict ≡ Accepted → place (same_labels a.row.labels) c.table.series ≡ None → ⊥
   pub stale : IsStaleIn c a
+  pub expired : IsExpiredIn c a

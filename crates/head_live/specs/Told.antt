@@ -1,9 +1,9 @@
 -- The verdicts that an appender gets on its rows.
-use Rattle.std.specs.Prelude.{◌≡◌, ℕ, ◌+◌, Bool, true, false, List, [], ◌∷◌, ◌++◌, filter, length, map}
+use Rattle.std.specs.Prelude.{◌≡◌, ℕ, ◌+◌, List, [], ◌∷◌, ◌++◌, filter, length, map}
 use Rattle.head_live.specs.declared.verdict.Verdict.{Verdict}
-use Rattle.head_live.specs.declared.verdict.Verdict.TheVariants.{Accepted, Stale}
 use Rattle.head_live.specs.declared.told.Told.{Told}
 use Rattle.head_live.specs.Rows.{Row}
+use Rattle.head_live.specs.Verdicts.{is_accepted}
 
 -- a row with its verdict
 pub record Answer : Type 0 where
@@ -23,11 +23,6 @@ abbrev pub answers : List Row → List Verdict → List Answer
 answers [] said = []
 answers (r ∷ rows) [] = []
 answers (r ∷ rows) (v ∷ said) = record { row = r; verdict = v } ∷ answers rows said
-
--- whether the verdict is that the row is accepted
-abbrev pub is_accepted : Verdict → Bool
-is_accepted Accepted = true
-is_accepted Stale = false
 
 -- the number of accepted rows
 abbrev pub accepted_count : List Verdict → ℕ

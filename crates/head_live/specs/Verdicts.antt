@@ -1,5 +1,5 @@
 -- The verdicts on rows.
-use Rattle.std.specs.Prelude.{ℕ, ℤ, Bool, List, [], ◌∷◌, ◌++◌, Option, None, Some, filter, int_le, map, if◌then◌else◌}
+use Rattle.std.specs.Prelude.{ℕ, ℤ, Bool, true, false, List, [], ◌∷◌, ◌++◌, Option, None, Some, filter, int_le, int_lt, map, if◌then◌else◌}
 use Rattle.std.specs.List.{list_any}
 use Rattle.hw_bytes.specs.Lists.{along}
 use Rattle.wal_record.specs.Labels.{Labels, same_labels}
@@ -8,7 +8,7 @@ use Rattle.head_series.specs.Texts.{place}
 use Rattle.head_core.specs.Content.{Content}
 use Rattle.head_core.specs.Heads.{history_at}
 use Rattle.head_live.specs.declared.verdict.Verdict.{Verdict}
-use Rattle.head_live.specs.declared.verdict.Verdict.TheVariants.{Accepted, Stale}
+use Rattle.head_live.specs.declared.verdict.Verdict.TheVariants.{Accepted, Stale, Expired}
 use Rattle.head_live.specs.Rows.{Row}
 
 -- the samples in a slot, or none without a slot
@@ -28,10 +28,21 @@ times_of c before l = map (λ s. s.time) (samples_in c l) ++ map (λ r. r.time) 
 abbrev pub is_stale : Content → List Row → Row → Bool
 is_stale c before r = list_any (λ t. int_le r.time t) (times_of c before r.labels)
 
+-- The verdict on a row after these rows. A row is expired if its time is before the least valid time. Such a row makes none after it
+-- stale: its time is before that of each row that is not expired.
+abbrev pub verdict_on : Content → List Row → Row → Verdict
+verdict_on c before r = if int_lt r.time c.min_valid then Expired else (if is_stale c before r then Stale else Accepted)
+
+-- whether the verdict is that the row is accepted
+abbrev pub is_accepted : Verdict → Bool
+is_accepted Accepted = true
+is_accepted Stale = false
+is_accepted Expired = false
+
 -- the verdict on each row, in order
 abbrev pub verdicts : Content → List Row → List Verdict
-verdicts c rows = along (λ before r. (if is_stale c before r then Stale else Accepted) ∷ []) rows
+verdicts c rows = along (λ before r. verdict_on c before r ∷ []) rows
 
 -- the rows that are accepted, in order
 abbrev pub accepted : Content → List Row → List Row
-accepted c rows = along (λ before r. if is_stale c before r then [] else r ∷ []) rows
+accepted c rows = along (λ before r. if is_accepted (verdict_on c before r) then r ∷ [] else []) rows

@@ -7,7 +7,7 @@ ghost use Rattle.head_column.specs.Samples.{Rises};
 ghost use Rattle.head_series.specs.Rows.{AreDistinct};
 ghost use Rattle.head_core.specs.Content.{Content};
 ghost use Rattle.head_core.specs.Heads.{history_at};
-ghost use Rattle.head_live.specs.Closing.{Agrees, IsStaleIn, all_told, new_rows};
+ghost use Rattle.head_live.specs.Closing.{Agrees, IsExpiredIn, IsStaleIn, all_told, new_rows};
 ghost use Rattle.head_live.specs.Placing.{AreInSeries, IsBefore, IsPossible, placed, row_at, sample_counts};
 ghost use Rattle.head_live.specs.Told.{accepted_rows, answer_of};
 
@@ -20,21 +20,23 @@ use crate::verdict::Verdict;
 use head_core::{Head, Slot};
 use std::alloc::{AllocError, Global};
 
-// Adds an accepted row to `accepted`. Returns false if the head can't hold the row: an accepted row has no series, or the series of a
-// stale row has no sample at or past its time.
+// Adds an accepted row to `accepted`. Returns false if the head can't hold the row: an accepted row has no series, the series of a
+// stale row has no sample at or past its time, or the time of an expired row is not before the least valid time. An expired row may
+// have no series.
 fn place_row(head: &Head, row: &Told, accepted: &mut Vec<PlacedSample>) -> Result<bool, AllocError>
     requires { head.now.failed ≡ false }
     ensures rows { IfOk result (λ stands. stands ≡ true →
         map (row_at head.now.content) accepted.new.items ≡ map (row_at head.now.content) accepted.old.items ++ accepted_rows (answer_of row.now ∷ [])) }
     ensures stale { IfOk result (λ stands. stands ≡ true → IsStaleIn head.now.content (answer_of row.now)) }
+    ensures expired { IfOk result (λ stands. stands ≡ true → IsExpiredIn head.now.content (answer_of row.now)) }
     ensures impossible { IfOk result (λ stands. stands ≡ false → IsPossible head.now.content (answer_of row.now) → ⊥) }
     ensures slots { OnOk result (AreInSeries head.now.content accepted.old.items → AreInSeries head.now.content accepted.new.items) }
 {
-    let Some(slot) = head.find(&row.labels) else {
-        return Ok(false);
-    };
     match row.verdict {
         Verdict::Accepted => {
+            let Some(slot) = head.find(&row.labels) else {
+                return Ok(false);
+            };
             accepted.push(PlacedSample {
                 slot: slot.number(),
                 time: row.time,
@@ -42,7 +44,11 @@ fn place_row(head: &Head, row: &Told, accepted: &mut Vec<PlacedSample>) -> Resul
             })?;
             Ok(true)
         }
-        Verdict::Stale => Ok(is_reached(head.last_time(slot), row.time)),
+        Verdict::Stale => match head.find(&row.labels) {
+            Some(slot) => Ok(is_reached(head.last_time(slot), row.time)),
+            None => Ok(false),
+        },
+        Verdict::Expired => Ok(row.time < head.min_valid()),
     }
 }
 
@@ -56,6 +62,7 @@ fn place_rows(
     ensures rows { IfOk result (λ stand. stand ≡ true →
         map (row_at head.now.content) accepted.new.items ≡ map (row_at head.now.content) accepted.old.items ++ accepted_rows (map answer_of told.now)) }
     ensures stale { IfOk result (λ stand. stand ≡ true → All (IsStaleIn head.now.content) (map answer_of told.now)) }
+    ensures expired { IfOk result (λ stand. stand ≡ true → All (IsExpiredIn head.now.content) (map answer_of told.now)) }
     ensures impossible { IfOk result (λ stand. stand ≡ false → All (IsPossible head.now.content) (map answer_of told.now) → ⊥) }
     ensures slots { OnOk result (AreInSeries head.now.content accepted.old.items → AreInSeries head.now.content accepted.new.items) }
 {
@@ -120,8 +127,9 @@ fn are_same(mut accepted: Vec<PlacedSample>, new: &[PlacedSample]) -> bool
     accepted.as_slice() == new
 }
 
-/// Returns whether the accepted rows of all appenders are exactly the samples of the head past the opening, each once, and whether the
-/// series of each stale row has a sample at or past its time. `opened` has the number of samples of each slot at the opening.
+/// Returns whether the accepted rows of all appenders are exactly the samples of the head past the opening, each once, the series of
+/// each stale row has a sample at or past its time, and each expired row is before the least valid time. `opened` has the number of
+/// samples of each slot at the opening.
 pub(crate) fn agrees<K: HeadRun>(
     alloc: Global,
     head: &Head,

@@ -1,4 +1,4 @@
-//! Errors of preparing and appending rows.
+//! Errors of preparing and appending rows, and of truncating a live head.
 
 use head_core::HeadFault;
 use std::alloc::{AllocError, AllocFailed};
@@ -69,6 +69,23 @@ impl fmt::Display for AppendFault {
 }
 
 impl Error for AppendFault {}
+
+/// The error of [`Live::truncate`](crate::Live::truncate).
+#[derive(Clone, Copy, Debug, PartialEq, Eq)]
+pub enum TruncateFault {
+    /// An earlier append returned `Write`.
+    Failed,
+}
+
+impl fmt::Display for TruncateFault {
+    fn fmt<W: fmt::Write>(&self, f: &mut fmt::Formatter<W>) -> fmt::Result {
+        f.write_str(match self {
+            TruncateFault::Failed => "the log has failed",
+        })
+    }
+}
+
+impl Error for TruncateFault {}
 
 impl From<HeadFault> for AppendFault {
     ghost use Rattle.std.specs.Prelude.{◌≡◌, ◌↔◌};

@@ -7,7 +7,7 @@ ghost use Rattle.head_column.specs.Times.{reaches};
 ghost use Rattle.head_series.specs.Rows.{AreDistinct};
 ghost use Rattle.head_live.specs.Batch.{AreSpent, is_missing};
 ghost use Rattle.head_live.specs.Verdicts.{verdicts};
-ghost use Rattle.head_live.specs.Judged.{AreStarts, IsBatch, IsStart, entry_after, entry_by, left_by, next_after, one_past, sample_after, standing_after, verdict_after};
+ghost use Rattle.head_live.specs.Judged.{AreStarts, IsBatch, IsStart, entry_after, entry_by, is_refused, left_by, next_after, one_past, sample_after, standing_after, verdict_after};
 
 use crate::fault::AppendFault;
 use crate::prepared::{Prepared, PreparedRow};
@@ -122,23 +122,28 @@ impl Judged {
         Ok(reference)
     }
 
-    // Judges the next row: adds its verdict, and its sample if it is accepted.
+    // Judges the next row: adds its verdict, and its sample if it is accepted. An expired row changes nothing else.
     fn take(
         &mut self,
+        min_valid: i64,
         standing: &mut Standing,
         next: &mut Option<u64>,
         labels: &LabelSet,
         row: &PreparedRow,
     ) -> Result<(), AppendFault>
-        ensures verdict { OnOk result (self.new.verdicts.items ≡ self.old.verdicts.items ++ verdict_after standing.old row.now.time ∷ []) }
-        ensures series { OnOk result (self.new.series.items ≡ self.old.series.items ++ entry_after standing.old next.old labels.now row.now.time) }
-        ensures samples { OnOk result (self.new.samples.items ≡ self.old.samples.items ++ sample_after standing.old next.old row.now.time row.now.value) }
-        ensures standing { OnOk result (standing.new ≡ standing_after standing.old next.old row.now.time) }
-        ensures next { OnOk result (next.new ≡ next_after standing.old next.old row.now.time) }
-        ensures named { OnOk result (reaches standing.old.last row.now.time ≡ false → is_missing (or_else standing.old.reference next.old) ≡ false) }
-        ensures spent { result ≡ Err AppendFault.RefsSpent → (reaches standing.old.last row.now.time ≡ false) × (standing.old.reference ≡ None) × (next.old ≡ None) }
+        ensures verdict { OnOk result (self.new.verdicts.items ≡ self.old.verdicts.items ++ verdict_after min_valid standing.old row.now.time ∷ []) }
+        ensures series { OnOk result (self.new.series.items ≡ self.old.series.items ++ entry_after min_valid standing.old next.old labels.now row.now.time) }
+        ensures samples { OnOk result (self.new.samples.items ≡ self.old.samples.items ++ sample_after min_valid standing.old next.old row.now.time row.now.value) }
+        ensures standing { OnOk result (standing.new ≡ standing_after min_valid standing.old next.old row.now.time) }
+        ensures next { OnOk result (next.new ≡ next_after min_valid standing.old next.old row.now.time) }
+        ensures named { OnOk result (is_refused min_valid standing.old row.now.time ≡ false → is_missing (or_else standing.old.reference next.old) ≡ false) }
+        ensures spent { result ≡ Err AppendFault.RefsSpent → (is_refused min_valid standing.old row.now.time ≡ false) × (standing.old.reference ≡ None) × (next.old ≡ None) }
         ensures others { IfErr result (λ fault. (fault ≡ AppendFault.RefsSpent) ⊎ (fault ≡ AppendFault.Memory)) }
     {
+        if row.time < min_valid {
+            self.verdicts.push(Verdict::Expired)?;
+            return Ok(());
+        }
         if is_reached(standing.last, row.time) {
             self.verdicts.push(Verdict::Stale)?;
             return Ok(());
@@ -155,7 +160,7 @@ impl Judged {
     }
 }
 
-/// Judges rows in order, each against the head and the accepted rows before it.
+/// Judges rows in order, each against the head and the accepted rows before it. Rows before the least valid time are expired.
 pub(crate) fn judge(alloc: Global, head: &Head, rows: &Prepared) -> Result<Judged, AppendFault>
     requires { head.now.failed ≡ false }
     ensures verdicts { IfOk result (λ judged. judged.verdicts.items ≡ verdicts head.now.content rows.now) }
@@ -166,6 +171,7 @@ pub(crate) fn judge(alloc: Global, head: &Head, rows: &Prepared) -> Result<Judge
     // for the proof: no two series of the head are equal
     head.series();
     let mut standings = standings(alloc, head, &rows.sets)?;
+    let min_valid = head.min_valid();
     let mut next = head.next_reference();
     let mut judged = Judged {
         verdicts: Vec::with_capacity(alloc, rows.rows.len())?,
@@ -174,7 +180,7 @@ pub(crate) fn judge(alloc: Global, head: &Head, rows: &Prepared) -> Result<Judge
     };
     for row in &rows.rows {
         let labels = &rows.sets[row.set];
-        judged.take(&mut standings[row.set], &mut next, labels, row)?;
+        judged.take(min_valid, &mut standings[row.set], &mut next, labels, row)?;
     }
     Ok(judged)
 }

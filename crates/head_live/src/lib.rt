@@ -1,5 +1,6 @@
 //! The live head: a head that takes new rows after replay. A row is judged, logged and only then applied, so that the head always
-//! has the content of its log.
+//! has the content of its log. Rows before the least valid time are expired: they are neither logged nor applied. `Live::truncate`
+//! raises that time.
 #![tactic(auto)]
 
 mod agreeing;
@@ -20,7 +21,7 @@ mod verdict;
 
 pub use appender::Appender;
 pub use closing::{CloseFault, Closed};
-pub use fault::{AppendFault, PrepareFault};
+pub use fault::{AppendFault, PrepareFault, TruncateFault};
 pub use held::Held;
 pub use live::Live;
 pub use prepared::Prepared;

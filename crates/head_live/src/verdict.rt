@@ -7,4 +7,6 @@ pub enum Verdict {
     Accepted,
     /// Its series has a sample with an equal or later time. The row is neither logged nor counted.
     Stale,
+    /// The row's time is before the least valid time, whatever its labels. The row is neither logged nor counted.
+    Expired,
 }

@@ -75,7 +75,8 @@ impl Names {
 
     // Removes the last slot of a label.
     fn pop(&mut self, name: &[u8], value: &[u8])
-        ensures { (n v : List ℕ) → slots_of self.new.slots n v ≡ (if same_label (label n v) (label name.now value.now) then take (length (slots_of self.old.slots n v) - 1) (slots_of self.old.slots n v) else slots_of self.old.slots n v) }
+        ensures { (n v : List ℕ) → slots_of self.new.slots n v ≡ (if same_label (label n v) (label name.now value.now)
+            then take (length (slots_of self.old.slots n v) - 1) (slots_of self.old.slots n v) else slots_of self.old.slots n v) }
     {
         match self.values.get_index_of(name) {
             Some(index) => self.values[index].pop(value),

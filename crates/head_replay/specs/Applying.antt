@@ -1,11 +1,13 @@
 -- Items dealt to workers.
-use Rattle.std.specs.Prelude.{◌≡◌, ◌++◌, ℕ, List, false, length}
+use Rattle.std.specs.Prelude.{◌≡◌, ◌++◌, ℕ, ℤ, List, false, length}
 use Rattle.wal_record.specs.declared.record.WalRecord.{WalRecord}
 use Rattle.wal_record.specs.Entries.{entries_of}
+use Rattle.wal_record.specs.Validity.{valid}
 use Rattle.head_deal.specs.Dealing.{Dealing, course, end_slots, ending_outcomes}
 use Rattle.head_column.specs.declared.items.Item.{Item}
 use Rattle.head_column.specs.declared.items.Outcome.{Outcome}
 use Rattle.head_core.specs.declared.counts.Counts.{Counts}
+use Rattle.head_core.specs.Taken.{taken_of}
 use Rattle.head_core.specs.Resolved.{ResolverValue, IsResolved, IsResolvable, resolved}
 use Rattle.head_core.specs.Applied.{values_after, outcomes_after, new_slots, AreCountsOfOutcomes}
 
@@ -18,11 +20,16 @@ pub record Ends {B V : Type 0} (value : B → V) (after : V → Item → V) (out
   pub outcomes : counted ++ ending_outcomes after outcome (course value d) ≡ outcomes_after after outcome slots items
   pub counts : AreCountsOfOutcomes counted c
 
--- The resolver has what these records say of series and references, and the deal ends with what their items make of a new slot for each
--- series.
-pub record IsBuilt {B V : Type 0} (value : B → V) (after : V → Item → V) (outcome : V → Item → Outcome) (new : V) (rs : List WalRecord) (r : ResolverValue) (d : Dealing B Item Outcome) (c : Counts) : Type 0 where
-  pub resolved_by : IsResolved rs r
+-- The resolver has the least valid time m, and what these records say of series and references with it in force.
+pub record HasResolved (m : ℤ) (rs : List WalRecord) (r : ResolverValue) : Type 0 where
+  pub time : r.min_valid ≡ m
+  pub taken : IsResolved (taken_of m rs) r
+
+-- The resolver has what these records say with the least valid time m, and the deal ends with what their valid items make of a new slot for
+-- each series.
+pub record IsBuilt {B V : Type 0} (value : B → V) (after : V → Item → V) (outcome : V → Item → Outcome) (new : V) (m : ℤ) (rs : List WalRecord) (r : ResolverValue) (d : Dealing B Item Outcome) (c : Counts) : Type 0 where
+  pub resolved_by : HasResolved m rs r
   pub sound : r.failed ≡ false
-  pub limits : IsResolvable rs
+  pub limits : IsResolvable (taken_of m rs)
   pub slots : length d.builders ≡ length r.table.series
-  pub ends : Ends value after outcome (new_slots new (entries_of rs)) (resolved (entries_of rs)) d c
+  pub ends : Ends value after outcome (new_slots new (entries_of (valid m rs))) (resolved (entries_of (valid m rs))) d c

@@ -1,6 +1,6 @@
 //! Options of a replay.
 
-/// Options of a replay. Its result does not depend on them.
+/// Options of a replay. Of these, its result depends on the least valid time alone.
 #[derive(Clone, Copy, Debug, PartialEq, Eq)]
 pub struct Options {
     /// The number of workers, 1 to 64.
@@ -8,4 +8,6 @@ pub struct Options {
     /// The number of pages that are taken in a round. At most these, and one unfinished record, are held decoded at a time. 0 counts as 1,
     /// and more than 2^32 as 2^32.
     pub round_pages: usize,
+    /// The least valid time, in milliseconds: entries before it are expired. `i64::MIN` is no limit.
+    pub min_valid: i64,
 }

@@ -84,7 +84,9 @@ fn listings<'t>(
 // Returns the postings of the one job, or those of no series.
 fn only(alloc: Global, mut jobs: Vec<Listing<'_>>) -> Postings
     requires one { vec_len jobs ≤ 1 }
-    ensures postings { (workers first : ℕ) (series : List Labels) → AreNumbered (λ worker job. IsPostingsOf (belonging workers worker (worker + 1) (by_slot series)) job.postings) first jobs.entry.items → IsPostingsOf (belonging workers first (first + vec_len jobs.entry) (by_slot series)) result }
+    ensures postings { (workers first : ℕ) (series : List Labels) →
+        AreNumbered (λ worker job. IsPostingsOf (belonging workers worker (worker + 1) (by_slot series)) job.postings) first jobs.entry.items →
+        IsPostingsOf (belonging workers first (first + vec_len jobs.entry) (by_slot series)) result }
 {
     match jobs.pop() {
         Some(job) => job.postings,
@@ -94,7 +96,9 @@ fn only(alloc: Global, mut jobs: Vec<Listing<'_>>) -> Postings
 
 // Returns the postings of all jobs. Merges them by halves, so each is copied at most as often as the number of jobs has bits.
 fn merge_all(alloc: Global, mut jobs: Vec<Listing<'_>>) -> Result<Postings, AllocError>
-    ensures postings { (workers first : ℕ) (series : List Labels) → AreNumbered (λ worker job. IsPostingsOf (belonging workers worker (worker + 1) (by_slot series)) job.postings) first jobs.entry.items → IfOk result (λ postings. IsPostingsOf (belonging workers first (first + vec_len jobs.entry) (by_slot series)) postings) }
+    ensures postings { (workers first : ℕ) (series : List Labels) →
+        AreNumbered (λ worker job. IsPostingsOf (belonging workers worker (worker + 1) (by_slot series)) job.postings) first jobs.entry.items →
+        IfOk result (λ postings. IsPostingsOf (belonging workers first (first + vec_len jobs.entry) (by_slot series)) postings) }
 {
     if jobs.len() <= 1 {
         return Ok(only(alloc, jobs));

@@ -1,8 +1,8 @@
 //! Builders of series for a replay.
 
-ghost use Rattle.std.specs.Prelude.{◌≡◌, List};
-ghost use Rattle.wal_record.specs.declared.record.WalRecord.{WalRecord as LogRecord};
+ghost use Rattle.std.specs.Prelude.{◌≡◌};
 ghost use Rattle.wal_record.specs.Entries.{entries_of};
+ghost use Rattle.head_core.specs.Taken.{Taken};
 ghost use Rattle.head_core.specs.Counts.{counts_of};
 ghost use Rattle.head_core.specs.Resolved.{resolved};
 ghost use Rattle.head_core.specs.Applied.{AreCountsOfOutcomes, new_slots, outcomes_after};
@@ -23,7 +23,7 @@ pub(crate) trait SeriesBuilder: Builder<Item = Item, Outcome = Outcome> {
 
     /// Does nothing. Its clause is a law: the outcomes of a log's items are those that the log's counts say.
     fn counts_of_outcomes()
-        ensures { (rs : List LogRecord) → AreCountsOfOutcomes (outcomes_after Self.after Self.outcome (new_slots (Self.value blank) (entries_of rs)) (resolved (entries_of rs))) (counts_of rs) };
+        ensures { (t : Taken) → AreCountsOfOutcomes (outcomes_after Self.after Self.outcome (new_slots (Self.value blank) (entries_of t.kept)) (resolved (entries_of t.kept))) (counts_of t) };
 }
 
 impl SeriesBuilder for Column {

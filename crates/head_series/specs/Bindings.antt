@@ -28,7 +28,8 @@ series_of bs = distinct same_labels (map (λ b. b.labels) bs)
 abbrev pub greatest_of : List Binding → Option ℕ
 greatest_of bs = greatest_by nat_lt (map (λ b. b.reference) bs)
 
--- The table is that of the bindings: it has their series; for each reference the slot of its owner; the greatest reference; and each text of the series once.
+-- The table is that of the bindings: it has their series; for each reference the slot of its owner; the greatest reference; and each text
+-- of the series once.
 pub record IsTableOf (bs : List Binding) (t : Table) : Type 0 where
   pub series : t.series ≡ series_of bs
   pub owners : (r : ℕ) → option_and_then (slice_get t.series) (slot_at t r) ≡ owner bs r

@@ -62,7 +62,8 @@ abbrev pub texts_after : List Labels → List Text → List Binding → List Tex
 texts_after ss ts [] = ts
 texts_after ss ts (b ∷ bs) = texts_after (with_series ss b.labels) (texts_seen ss ts b.labels) bs
 
--- What a plan counts: the series and the texts that will be new; and bounds on how many the bindings, their texts, and their references from `low_end` on are.
+-- What a plan counts: the series and the texts that will be new; and bounds on how many the bindings, their texts, and their references
+-- from `low_end` on are.
 pub record Planned : Type 0 where
   pub series : List Labels
   pub texts : List Text

@@ -7,7 +7,8 @@ use Rattle.wal_record.specs.Labels.{same_labels}
 use Rattle.hw_bytes.specs.Lists.{greater_by}
 use Rattle.head_series.specs.Texts.{Text, with_texts, texts_of}
 
--- How much more can be added without allocating: rows of series, their lower bounds, their places by hash, and texts; small references, those below `places`; and this many others. specs/ReferenceSlots says which are small.
+-- How much more can be added without allocating: rows of series, their lower bounds, their places by hash, and texts; small references,
+-- those below `places`; and this many others. specs/ReferenceSlots says which are small.
 pub record Room : Type 0 where
   pub rows : ℕ
   pub lower_bounds : ℕ
@@ -16,7 +17,9 @@ pub record Room : Type 0 where
   pub places : ℕ
   pub high : ℕ
 
--- The content of a table: the series by slot; the references that have a slot, each with it, in no particular order (`slot_at`); the greatest reference that was ever bound; the distinct texts of the series; and the limit of series and of texts. And how much more can be added without allocating, which no call shows.
+-- The content of a table: the series by slot; the references that have a slot, each with it, in no particular order (`slot_at`); the
+-- greatest reference that was ever bound; the distinct texts of the series; and the limit of series and of texts. And how much more can be
+-- added without allocating, which no call shows.
 pub record Table : Type 0 where
   pub series : List Labels
   pub slots : List (ℕ × ℕ)

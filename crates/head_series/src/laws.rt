@@ -23,7 +23,8 @@ pub fn slot_is_place()
 
 /// In a table of bindings the least reference of a slot is the least reference that the label set of the slot owns.
 pub fn least_reference()
-    ensures { (bs : List Binding) (t : Table) (s : ℕ) (least : Option ℕ) → IsTableOf bs t → s < length t.series → IsLeast (λ r. slot_at t r ≡ Some s) least → IsLeast (λ r. owner bs r ≡ Some (labels_at t s)) least }
+    ensures { (bs : List Binding) (t : Table) (s : ℕ) (least : Option ℕ) → IsTableOf bs t → s < length t.series →
+        IsLeast (λ r. slot_at t r ≡ Some s) least → IsLeast (λ r. owner bs r ≡ Some (labels_at t s)) least }
 {}
 
 /// Room for some bindings is room for the first of them.

@@ -37,9 +37,11 @@ impl SeriesTable {
         ensures kept { AreAlike self.old self.new }
         ensures ready { IfOk result (λ ready. ready ≡ labels.now) }
         ensures room { (bs : List Binding) → IsReserved self.old bs plan.old → OnOk result (IsReserved self.new (bs ++ (record { reference = reference; labels = labels.now }) ∷ []) plan.new) }
-        ensures full { (bs : List Binding) → IsReserved self.old bs plan.old → result ≡ Err BindFault.Full → Fits self.old.most self.old.series self.old.texts (bs ++ (record { reference = reference; labels = labels.now }) ∷ []) → ⊥ }
+        ensures full { (bs : List Binding) → IsReserved self.old bs plan.old → result ≡ Err BindFault.Full →
+            Fits self.old.most self.old.series self.old.texts (bs ++ (record { reference = reference; labels = labels.now }) ∷ []) → ⊥ }
         // At the limit of series a new one is refused before anything is allocated.
-        ensures limit { has_series self.old.series labels.now ≡ false → has_series plan.old.series labels.now ≡ false → self.old.most ≤ length self.old.series + length plan.old.series → result ≡ Err BindFault.Full }
+        ensures limit { has_series self.old.series labels.now ≡ false → has_series plan.old.series labels.now ≡ false →
+            self.old.most ≤ length self.old.series + length plan.old.series → result ≡ Err BindFault.Full }
     {
         if plan.is_at_limit(self, self.most, labels) {
             return Err(BindFault::Full);
@@ -54,7 +56,8 @@ impl SeriesTable {
     // Adds to a plan what a label set makes new.
     fn note(&self, plan: &mut Plan, labels: &LabelSet) -> Result<(), BindFault>
         ensures plan { (bs : List Binding) (r : ℕ) → IsPlanOf self.now bs plan.old → OnOk result (IsPlanOf self.now (bs ++ (record { reference = r; labels = labels.now }) ∷ []) plan.new) }
-        ensures full { (bs : List Binding) (r : ℕ) → IsPlanOf self.now bs plan.old → result ≡ Err BindFault.Full → Fits self.now.most self.now.series self.now.texts (bs ++ (record { reference = r; labels = labels.now }) ∷ []) → ⊥ }
+        ensures full { (bs : List Binding) (r : ℕ) → IsPlanOf self.now bs plan.old → result ≡ Err BindFault.Full →
+            Fits self.now.most self.now.series self.now.texts (bs ++ (record { reference = r; labels = labels.now }) ∷ []) → ⊥ }
         ensures bindings { plan.new.bindings ≡ plan.old.bindings }
         ensures texts_most { plan.new.texts_most ≡ plan.old.texts_most }
         ensures high { plan.new.high ≡ plan.old.high }

@@ -10,17 +10,17 @@ use std::alloc::{AllocError, Global};
 use std::process::Abort;
 use wal_log::LogWriter;
 
-// A head's log, a segment of so many pages on a device that has room for so many bytes, and the rows of each call.
+// A head's log, the pages of a segment, the bytes that its device has room for, and the rows of each call.
 #[derive(Clone, Copy)]
 pub(crate) struct Appends {
-    log: &'static [Entry],
-    pages: u32,
-    room: usize,
-    calls: &'static [&'static [Row]],
+    pub(crate) log: &'static [Entry],
+    pub(crate) pages: u32,
+    pub(crate) room: usize,
+    pub(crate) calls: &'static [&'static [Row]],
 }
 
 impl Appends {
-    /// The same, on a device that has room for so many bytes.
+    /// Returns these calls on a device with room for `room` bytes.
     pub(crate) fn with_room(self, room: usize) -> Appends {
         Appends { room, ..self }
     }
@@ -62,6 +62,7 @@ pub(crate) fn push_call(
                 text.push(match verdict {
                     Verdict::Accepted => 'A',
                     Verdict::Stale => 'S',
+                    Verdict::Expired => 'E',
                 })?;
             }
         }
@@ -72,7 +73,11 @@ pub(crate) fn push_call(
 }
 
 // The bytes that the device took, and what the head shows.
-fn push_left(text: &mut String, alloc: Global, live: Live<Device>) -> Result<(), AllocError> {
+pub(crate) fn push_left(
+    text: &mut String,
+    alloc: Global,
+    live: Live<Device>,
+) -> Result<(), AllocError> {
     let shown = views(alloc, live.head())?;
     let (head, log) = live.into_inner();
     for byte in &log.into_inner().taken {
@@ -95,7 +100,7 @@ impl Case for Appends {
     }
 }
 
-const NONE: Appends = Appends {
+pub(crate) const NONE: Appends = Appends {
     log: &[],
     pages: 4096,
     room: usize::MAX,

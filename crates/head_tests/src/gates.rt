@@ -288,6 +288,7 @@ fn two_pages_take_two_rounds(rt: HostRuntime) -> Result<(), Fail> {
         let options = Options {
             workers: 2,
             round_pages,
+            min_valid: i64::MIN,
         };
         let gate = Noted::new();
         let replayed = replay(&rt, alloc, &input, &options, &gate)?;
@@ -305,6 +306,7 @@ fn no_round_behind_the_damage(rt: HostRuntime) -> Result<(), Fail> {
     let options = Options {
         workers: 2,
         round_pages: 2,
+        min_valid: i64::MIN,
     };
     let gate = Noted::new();
     let tallied = tally(&rt, alloc, &input, &options, &gate)?;

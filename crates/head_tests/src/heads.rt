@@ -141,6 +141,8 @@ const NO_COUNTS: Counts = Counts {
     hiding: 0,
     empty_stones: 0,
     unknown_stones: 0,
+    expired_samples: 0,
+    expired_stones: 0,
 };
 
 const EMPTY_HEAD: Case = Case {
@@ -229,6 +231,7 @@ const SAMPLE_BEFORE_ITS_SERIES: Case = Case {
         hiding: 1,
         empty_stones: 1,
         unknown_stones: 1,
+        ..NO_COUNTS
     },
     next_reference: Some(2),
     max_time: Some(i64::MAX),

@@ -41,6 +41,8 @@ mod deals;
 #[cfg(test)]
 mod device;
 #[cfg(test)]
+mod expired_rows;
+#[cfg(test)]
 mod failing_writer;
 #[cfg(test)]
 mod full_heads;
@@ -92,6 +94,8 @@ mod starts;
 mod tickets;
 #[cfg(test)]
 mod unjoined;
+#[cfg(test)]
+mod valid_times;
 #[cfg(test)]
 mod views;
 #[cfg(test)]

@@ -34,6 +34,8 @@ pub(crate) const NOTHING: Counts = Counts {
     hiding: 0,
     empty_stones: 0,
     unknown_stones: 0,
+    expired_samples: 0,
+    expired_stones: 0,
 };
 
 /// A log of no files.
@@ -56,6 +58,7 @@ pub(crate) fn by(workers: usize) -> Options {
     Options {
         workers,
         round_pages: 256,
+        min_valid: i64::MIN,
     }
 }
 
@@ -108,6 +111,7 @@ pub(crate) fn check_each<R: Abort + Threads + Wait + Sync>(
             let options = Options {
                 workers: *workers,
                 round_pages,
+                min_valid: i64::MIN,
             };
             check_by(rt, alloc, &input, case, shown.as_str(), &options)?;
         }
@@ -115,7 +119,7 @@ pub(crate) fn check_each<R: Abort + Threads + Wait + Sync>(
     Ok(())
 }
 
-/// The same of all numbers of workers that are tried.
+/// Checks the case with each number of workers that is tried.
 pub(crate) fn check<R: Abort + Threads + Wait + Sync>(
     rt: &R,
     alloc: Global,

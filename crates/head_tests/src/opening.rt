@@ -3,7 +3,7 @@
 use head_core::{Head, HeadFault};
 use hw_bytes::Items;
 use std::alloc::{AllocError, Global};
-use wal_record::{LabelFault, LabelSet, SampleEntry, SeriesEntry, WalRecord};
+use wal_record::{LabelFault, LabelSet, SampleEntry, SeriesEntry, StoneEntry, WalRecord};
 
 /// A record of one entry.
 #[derive(Clone, Copy, Debug)]
@@ -12,6 +12,8 @@ pub enum Entry {
     Series(u64, &'static [u8]),
     /// A sample: its reference, time and value.
     Sample(u64, i64, i64),
+    /// A deletion: its reference, and the first and the last time to hide.
+    Stone(u64, i64, i64),
 }
 
 fn label_set(alloc: Global, value: &[u8]) -> Result<LabelSet, LabelFault> {
@@ -20,7 +22,8 @@ fn label_set(alloc: Global, value: &[u8]) -> Result<LabelSet, LabelFault> {
     Ok(labels)
 }
 
-fn record_of(alloc: Global, entry: Entry) -> Result<WalRecord, AllocError> {
+/// The record of this entry alone.
+pub fn record_of(alloc: Global, entry: Entry) -> Result<WalRecord, AllocError> {
     match entry {
         Entry::Series(reference, value) => {
             let labels = label_set(alloc, value).map_err(|_| AllocError)?;
@@ -36,6 +39,15 @@ fn record_of(alloc: Global, entry: Entry) -> Result<WalRecord, AllocError> {
                 value,
             })?;
             Ok(WalRecord::Samples(Items::from_vec(entries)))
+        }
+        Entry::Stone(reference, min_time, max_time) => {
+            let mut entries = Vec::new(alloc);
+            entries.push(StoneEntry {
+                reference,
+                min_time,
+                max_time,
+            })?;
+            Ok(WalRecord::Stones(Items::from_vec(entries)))
         }
     }
 }

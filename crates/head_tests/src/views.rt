@@ -49,17 +49,27 @@ fn push_kept(text: &mut String, head: &Head, slot: Slot) -> Result<(), AllocErro
 /// Each view of a head that has not failed, in one text.
 pub fn views(alloc: Global, head: &Head) -> Result<String, AllocError> {
     let mut text = String::new(alloc);
+    if !head.is_failed() {
+        write!(text, "{:?}\n", head.counts())?;
+    }
+    text.push_str(contents(alloc, head)?.as_str())?;
+    Ok(text)
+}
+
+/// Each view but the counts.
+pub fn contents(alloc: Global, head: &Head) -> Result<String, AllocError> {
+    let mut text = String::new(alloc);
     if head.is_failed() {
         text.push_str("failed")?;
         return Ok(text);
     }
     write!(
         text,
-        "{:?}\n{} {:?} {:?}\n",
-        head.counts(),
+        "{} {:?} {:?} {}\n",
         head.series(),
         head.next_reference(),
-        head.max_time()
+        head.max_time(),
+        head.min_valid()
     )?;
     push_slots(&mut text, head.all())?;
     for slot in head.all() {

@@ -1,14 +1,14 @@
--- How often a terminal is told of a replay.
+-- How often a progress line is printed.
 use Rattle.std.proofs.Common.{◌≡◌, ℕ, ◌+◌, ◌-◌, ◌/◌, ◌≤◌, ◌&&◌, Bool, true, false, List, [], ◌∷◌, if◌then◌else◌, max, nat_le, nat_lt, refl, arith}
 use Rattle.std.proofs.lemmas.Grind.{common_steps}
 use Rattle.prom_figures.specs.declared.pacer.Pacer.{Pacer}
 use Rattle.prom_figures.specs.Progress.{count_in_second, moments, told}
 
--- How many lines there are at most in a second, if the last before them was at this millisecond.
+-- the most lines in a second, if the last line before it was printed at this millisecond
 abbrev pub most_after : ℕ → ℕ → ℕ
 most_after start last = (start + 1000 - max start (last + 100) + 99) / 100
 
--- One more round: a line at the earliest 100 milliseconds after the last, or none.
+-- one more round: a line, at the earliest 100 milliseconds after the last, or none
 count-round : (is_terminal is_later : Bool) (last now start : ℕ) (told quiet : List ℕ)
     → count_in_second start told ≤ most_after start now
     → count_in_second start quiet ≤ most_after start last
@@ -23,14 +23,14 @@ count-moments p ((turn, now) ∷ rounds) start =
     count-round p.is_terminal (nat_lt 0 turn) p.last now start (moments (told p now) rounds) (moments p rounds)
     (count-moments (told p now) rounds start) (count-moments p rounds start)
 
--- A law: there are at most ten lines in any second.
+-- at most ten lines are printed in any second
 pub ten_a_second : (p : Pacer) (rounds : List (ℕ × ℕ)) (start : ℕ) → count_in_second start (moments p rounds) ≤ 10
 ten_a_second p rounds start = let few = count-moments p rounds start in omega arith
 
 none-round : (is_terminal is_due : Bool) (told quiet : List ℕ) → is_terminal ≡ false → quiet ≡ [] → (if is_terminal && is_due then told else quiet) ≡ []
 none-round is_terminal is_due told quiet silent none = rw silent none
 
--- A law: where there is no terminal there is no line.
+-- without a terminal no line is printed
 pub none_without_terminal : (p : Pacer) (rounds : List (ℕ × ℕ)) → p.is_terminal ≡ false → moments p rounds ≡ []
 none_without_terminal p [] silent = refl
 none_without_terminal p ((turn, now) ∷ rounds) silent =

@@ -5,11 +5,13 @@
 mod counts;
 mod extent;
 mod hours;
+mod laws;
 mod line;
 mod pacer;
 
 pub use counts::{BlockCounts, counts_of};
 pub use extent::Extent;
 pub use hours::ends;
+pub use laws::progress_lines;
 pub use line::Line;
 pub use pacer::Pacer;

@@ -45,12 +45,23 @@ fn round_pages<'a>(alloc: Global) -> Arg<'a> {
         .default_value("256")
 }
 
+fn min_valid<'a>(alloc: Global) -> Arg<'a> {
+    Arg::new(alloc, "min-valid")
+        .long("min-valid")
+        .value_name("M")
+        .help("The least valid time in milliseconds; samples and deletions before it are expired")
+        .value_parser(value_parser!(i64))
+}
+
 // Adds the options of replay to a command.
 fn replaying<'a>(
     alloc: Global,
     command: Result<Command<'a>, AllocError>,
 ) -> Result<Command<'a>, AllocError> {
-    command?.arg(workers(alloc))?.arg(round_pages(alloc))
+    command?
+        .arg(workers(alloc))?
+        .arg(round_pages(alloc))?
+        .arg(min_valid(alloc))
 }
 
 fn replay<'a>(alloc: Global) -> Result<Command<'a>, AllocError> {
@@ -163,11 +174,12 @@ fn command<'a>(alloc: Global) -> Result<Command<'a>, AllocError> {
     with(command, replaying(alloc, append(alloc)))
 }
 
-// Returns the options of replay.
+// Returns the options of replay. Where no least valid time is given, it is the least of all times, so that nothing is expired.
 fn options(of: &ArgMatches<'_>) -> Option<Options> {
     Some(Options {
         workers: usize::from(of.get_one::<u8>("workers")?),
         round_pages: of.get_one::<u32>("round-pages")? as usize,
+        min_valid: of.get_one("min-valid").unwrap_or(i64::MIN),
     })
 }
 

@@ -1,9 +1,9 @@
--- What a fault tells.
+-- What a fault says.
 use Rattle.std.specs.Prelude.{◌≡◌, ℕ, List, string_bytes, ⊤}
 use Rattle.prom_store.specs.declared.fault.Fault.{Fault}
 use Rattle.prom_store.specs.declared.fault.Fault.TheVariants.{Damage, BadIndex, BadChunks, BadTombstones, BadMeta, CannotRead, CannotWrite, OutOfMemory}
 
--- The log is damaged, or a part of a block is none.
+-- the log is damaged, or bytes of a block are not what a block has there
 abbrev pub TellsDamage : Fault → Type 0
 TellsDamage (Damage _) = ⊤
 TellsDamage (BadIndex _) = ⊤
@@ -12,13 +12,13 @@ TellsDamage BadTombstones = ⊤
 TellsDamage BadMeta = ⊤
 TellsDamage _ = ⊥
 
--- What is at this path was not read, or memory ran out.
+-- what is at this path could not be read, or out of memory
 abbrev pub TellsUnread : List ℕ → Fault → Type 0
 TellsUnread path (CannotRead told) = string_bytes told ≡ path
 TellsUnread _ OutOfMemory = ⊤
 TellsUnread _ _ = ⊥
 
--- What is at this path was not written, or memory ran out.
+-- what is at this path could not be written, or out of memory
 abbrev pub TellsUnwritten : List ℕ → Fault → Type 0
 TellsUnwritten path (CannotWrite told) = string_bytes told ≡ path
 TellsUnwritten _ OutOfMemory = ⊤

@@ -21,5 +21,7 @@ returns-clause-resolvable c = λ rs w. record {
     hiding = omega arith;
     empty_stones = omega arith;
     unknown_stones = w.counts.unknown_stones;
+    expired_samples = w.counts.expired_samples;
+    expired_stones = w.counts.expired_stones;
   };
 }

@@ -4,7 +4,7 @@ use Rattle.std.proofs.lemmas.List.Elements.{All-append}
 use Rattle.std.proofs.lemmas.List.Sorted.{IsPermutation-map}
 use Rattle.std.specs.List.Sorted.{IsPermutation}
 use Rattle.head_live.specs.declared.placed.PlacedSample.{PlacedSample}
-use Rattle.head_live.specs.Closing.{IsStaleIn, all_told, new_rows}
+use Rattle.head_live.specs.Closing.{IsExpiredIn, IsStaleIn, all_told, new_rows}
 use Rattle.head_live.specs.Placing.{AreInSeries, IsBefore, IsPossible, row_at}
 use Rattle.head_live.specs.Rows.{Row}
 use Rattle.head_live.specs.Told.{Answer, AppenderState, accepted_rows, answer_of}
@@ -26,6 +26,8 @@ loop-appender-preserved g c =
       rows = added ∙ (both ∙ (sym (accepted_rows-append before told) ∙ ap accepted_rows (sym more)));
       stale = subst (All (IsStaleIn now)) (sym more)
           (All-append (IsStaleIn now) before told c.loop-appender.invariant.stale (subst (All (IsStaleIn now)) c.told.ensures (placed.stale c.if-not-branch.false)));
+      expired = subst (All (IsExpiredIn now)) (sym more)
+          (All-append (IsExpiredIn now) before told c.loop-appender.invariant.expired (subst (All (IsExpiredIn now)) c.told.ensures (placed.expired c.if-not-branch.false)));
       slots = placed.slots c.loop-appender.invariant.slots;
     }
 
@@ -42,6 +44,7 @@ returns g c =
           let same = IsPermutation-map (row_at now) _ _ (c.are_same.ensures.same h) in record {
             once = subst (IsPermutation (accepted_rows (all_told c.args.appenders.now))) new (subst (λ r. IsPermutation r (map (row_at now) read)) old same);
             stale = subst (λ (a : List AppenderState). All (IsStaleIn now) (all_told a)) whole c.loop-appender.invariant.stale;
+            expired = subst (λ (a : List AppenderState). All (IsExpiredIn now) (all_told a)) whole c.loop-appender.invariant.expired;
           };
       differ = λ no opening e agrees.
           let new : map (row_at now) read ≡ new_rows opening now = ap (map (row_at now)) is ∙ c.in_ok-new.ensures.rows opening e in

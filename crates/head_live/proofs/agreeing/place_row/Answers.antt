@@ -27,18 +27,26 @@ returns-in_ok-push-in-Accepted-clause-rows c = λ _.
     c.in_ok-push-in-Accepted.ensures.items ∙ (ap (λ t. sample t (to_z w64 (of_z w64 row.value))) time ∙ ap (sample row.time) value) in
     placed_row content row slot old c.push.new.self.items found c.in-Accepted.is pushed
 
-pub returns-in-Stale : goal.returns-in-Stale
-returns-in-Stale c =
+pub returns-in-Some-find-clause-stale : goal.returns-in-Some-find-clause-stale
+returns-in-Some-find-clause-stale c = λ h _.
     let content = c.args.head.now.content in
     let row = c.args.row.now in
-    let slot = c.in-Some.slot in
+    let slot = c.in-Some-find.slot in
     let found : place (same_labels row.labels.value) content.table.series ≡ Some slot =
-    ap (λ l. place (same_labels l) content.table.series) (sym c.deref.ensures) ∙ (sym c.find.ensures.slot ∙ c.in-Some.is) in
+    ap (λ l. place (same_labels l) content.table.series) (sym c.deref-in-Stale.ensures) ∙ (sym c.find-in-Stale.ensures.slot ∙ c.in-Some-find.is) in
     let time : to_z w64 (of_z w64 row.time) ≡ row.time = search (rules, to_z-of_z) in
     let reached : reaches (latest (history_at content slot).samples) row.time ≡ c.is_reached.result =
-    ap (reaches (latest (history_at content slot).samples)) (sym time) ∙ (ap (λ o. reaches o (to_z w64 (of_z w64 row.time))) (sym c.last_time.ensures) ∙ sym c.is_reached.ensures) in record {
-      rows = search rules;
-      stale = λ h _. found_reached content row.labels.value slot row.time true found (reached ∙ h);
-      impossible = λ no. not_reached content (answer_of row) slot found c.in-Stale.is (reached ∙ no);
-      slots = search rules;
-    }
+    ap (reaches (latest (history_at content slot).samples)) (sym time) ∙ (ap (λ o. reaches o (to_z w64 (of_z w64 row.time))) (sym c.last_time.ensures) ∙ sym c.is_reached.ensures) in
+    found_reached content row.labels.value slot row.time true found (reached ∙ h)
+
+pub returns-in-Some-find-clause-impossible : goal.returns-in-Some-find-clause-impossible
+returns-in-Some-find-clause-impossible c = λ no.
+    let content = c.args.head.now.content in
+    let row = c.args.row.now in
+    let slot = c.in-Some-find.slot in
+    let found : place (same_labels row.labels.value) content.table.series ≡ Some slot =
+    ap (λ l. place (same_labels l) content.table.series) (sym c.deref-in-Stale.ensures) ∙ (sym c.find-in-Stale.ensures.slot ∙ c.in-Some-find.is) in
+    let time : to_z w64 (of_z w64 row.time) ≡ row.time = search (rules, to_z-of_z) in
+    let reached : reaches (latest (history_at content slot).samples) row.time ≡ c.is_reached.result =
+    ap (reaches (latest (history_at content slot).samples)) (sym time) ∙ (ap (λ o. reaches o (to_z w64 (of_z w64 row.time))) (sym c.last_time.ensures) ∙ sym c.is_reached.ensures) in
+    not_reached content (answer_of row) slot found c.in-Stale.is (reached ∙ no)

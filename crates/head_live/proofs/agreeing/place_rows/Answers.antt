@@ -1,6 +1,6 @@
 use Rattle.std.proofs.Common.{◌≡◌, ◌+◌, ◌∙◌, ◌∷◌, ◌++◌, [], All, List, ap, append_assoc, map, subst, sym, take}
 use Rattle.std.proofs.lemmas.List.Elements.{All-push}
-use Rattle.head_live.specs.Closing.{IsStaleIn}
+use Rattle.head_live.specs.Closing.{IsExpiredIn, IsStaleIn}
 use Rattle.head_live.specs.Placing.{IsPossible, row_at}
 use Rattle.head_live.specs.Rows.{Row}
 use Rattle.head_live.specs.Told.{Answer, accepted_rows, answer_of}
@@ -22,6 +22,7 @@ loop-row-preserved c =
           ∙ (append_assoc front (accepted_rows so_far) (accepted_rows (answer_of x ∷ []))
           ∙ ap (λ r. front ++ r) (sym (accepted_rows-append so_far (answer_of x ∷ [])) ∙ ap accepted_rows (sym more))));
       stale = subst (All (IsStaleIn content)) (sym more) (All-push (IsStaleIn content) so_far (answer_of x) c.loop-row.invariant.stale (c.in_ok-place_row.ensures.stale c.if-not-branch.false));
+      expired = subst (All (IsExpiredIn content)) (sym more) (All-push (IsExpiredIn content) so_far (answer_of x) c.loop-row.invariant.expired (c.in_ok-place_row.ensures.expired c.if-not-branch.false));
       slots = λ h. c.in_ok-place_row.ensures.slots (c.loop-row.invariant.slots h);
     }
 

@@ -1,4 +1,5 @@
-use Rattle.std.proofs.Common.{Err, ◌≡◌, ◌∙◌, List, ap, get_or, length, map, pos, subst, sym}
+use Rattle.std.proofs.Common.{Err, ◌≡◌, ◌∙◌, List, ap, get_or, length, map, of_z, pos, rules, subst, sym, to_z, w64}
+use Rattle.std.proofs.lemmas.Int.{to_z-of_z}
 use Rattle.std.proofs.lemmas.List.{get_or-map, length-map}
 use Rattle.std.proofs.lemmas.Result.{err_from_is_err_and}
 use Rattle.wal_record.specs.Labels.{Labels}
@@ -35,9 +36,11 @@ returns-in_err-take-clause-spent c =
     let was = c.in_err-take.was in
     λ e.
     let spent : c.take.result ≡ Err RefsSpent = cc in
+    let same : to_z w64 (of_z w64 c.min_valid-min_valid.result) ≡ c.min_valid-min_valid.result = search (rules, to_z-of_z) in
+    let time : to_z w64 (of_z w64 c.min_valid-min_valid.result) ≡ c.args.head.now.content.min_valid = same ∙ c.min_valid-min_valid.ensures in
     let q = c.take.ensures.spent spent in
     rw (← c.rows.view_is) (judged_spent c.args.head.now.content (map (λ s. s.value) c.rows.inside.sets.items) c.in_ok-standings.standings.items c.rows.inside.rows.items c.deref-row-items.result.now c.deref-row-items.ensures.value c.rows.invariant
-    c.loop-row.row-index _ c.loop-row.standings.items c.index_mut.result.now c.loop-row.next _ _ _ c.loop-row.invariant.starts c.loop-row.invariant.judges c.loop-row-test.true c.index_mut.ensures.value q.0 q.1 q.2)
+    c.loop-row.row-index _ c.loop-row.standings.items c.index_mut.result.now c.loop-row.next _ _ _ c.loop-row.invariant.starts c.loop-row.invariant.judges c.loop-row-test.true c.index_mut.ensures.value _ time q.0 q.1 q.2)
 
 pub loop-row-preserved : goal.loop-row-preserved
 loop-row-preserved c =
@@ -47,11 +50,13 @@ loop-row-preserved c =
     let k = (get_or c.deref-row-items.result.now c.loop-row.row-index (record { set = 0; time = pos 0; value = pos 0 })).set in
     let within = row_within c.args.head.now.content sets c.in_ok-standings.standings.items c.rows.inside.rows.items c.deref-row-items.result.now c.deref-row-items.ensures.value c.rows.invariant c.loop-row.row-index _ (length shared.items) (sym (length-map shared.items (λ s. s.value))) c.loop-row-test.true in
     let labels : c.deref-in-loop-row.result.now ≡ get_or sets k c.deref-in-loop-row.result.now =
-    c.deref-in-loop-row.ensures ∙ (ap (λ s. s.value) c.index-labels.ensures ∙ sym (get_or-map (λ s. s.value) shared.items k arc c.deref-in-loop-row.result.now within)) in record {
+    c.deref-in-loop-row.ensures ∙ (ap (λ s. s.value) c.index-labels.ensures ∙ sym (get_or-map (λ s. s.value) shared.items k arc c.deref-in-loop-row.result.now within)) in
+    let same : to_z w64 (of_z w64 c.min_valid-min_valid.result) ≡ c.min_valid-min_valid.result = search (rules, to_z-of_z) in
+    let time : to_z w64 (of_z w64 c.min_valid-min_valid.result) ≡ c.args.head.now.content.min_valid = same ∙ c.min_valid-min_valid.ensures in record {
       starts = c.loop-row.invariant.starts;
       judges = judged_more c.args.head.now.content sets c.in_ok-standings.standings.items c.rows.inside.rows.items c.deref-row-items.result.now c.deref-row-items.ensures.value c.rows.invariant
           c.loop-row.row-index _ c.loop-row.standings.items c.index_mut.result.now c.take.new.standing c.deref-in-loop-row.result.now c.loop-row.next c.take.new.next _ _ _ _ _ _
-          c.loop-row.invariant.judges c.loop-row-test.true c.index_mut.ensures.value labels c.in_ok-take.ensures.standing c.in_ok-take.ensures.next c.in_ok-take.ensures.verdict c.in_ok-take.ensures.series c.in_ok-take.ensures.samples c.in_ok-take.ensures.named;
+          c.loop-row.invariant.judges c.loop-row-test.true c.index_mut.ensures.value labels _ time c.in_ok-take.ensures.standing c.in_ok-take.ensures.next c.in_ok-take.ensures.verdict c.in_ok-take.ensures.series c.in_ok-take.ensures.samples c.in_ok-take.ensures.named;
     }
 
 pub returns-clause-batch : goal.returns-clause-batch

@@ -19,4 +19,6 @@ returns-clause-counts c =
       hiding = search (rules, ranges);
       empty_stones = search (rules, ranges);
       unknown_stones = search (rules, ranges);
+      expired_samples = search (rules, ranges);
+      expired_stones = search (rules, ranges);
     })
