@@ -8,7 +8,23 @@ use Rattle.wal_record.specs.Labels.{IsLabelSet, compare_labels}
 use Rattle.block_index.specs.declared.row.ChunkMeta.{ChunkMeta}
 use Rattle.block_index.specs.declared.row.IndexRow.{IndexRow}
 use Rattle.block_index.specs.Layout.{Text}
-use Rattle.block_index.specs.Index.{symbols, names, pairs, symbols_body, series_body, series_ids, label_index_body, values_of, postings_body, ids_with, label_table_body, postings_table_body, label_entries, postings_entries, index_text}
+use Rattle.block_index.specs.Index.{
+  symbols,
+  names,
+  pairs,
+  symbols_body,
+  series_body,
+  series_ids,
+  label_index_body,
+  values_of,
+  postings_body,
+  ids_with,
+  label_table_body,
+  postings_table_body,
+  label_entries,
+  postings_entries,
+  index_text,
+}
 
 -- P holds of each two neighbours.
 abbrev pub IsChain : {X : Type 0} → (X → X → Type 0) → List X → Type 0

@@ -4,7 +4,22 @@ ghost use Rattle.std.specs.Prelude.{◌≡◌, ◌≤◌, map, length, IfSome};
 ghost use Rattle.std.specs.Option.{option_map};
 ghost use Rattle.hw_bytes.specs.Reading.{uvarint_at as uvarint_in_front, varint_at as varint_in_front, text_at as text_in_front};
 ghost use Rattle.block_index.specs.Gives.{Gives};
-ghost use Rattle.block_index.specs.Fields.{four as four_in, uvarint_field, varint_field, text_field, reference_field, pair_field, later as later_in, first_chunk as first_chunk_in, next_chunk as next_chunk_in, next_chunks as next_chunks_in, chunks_field, marked as marked_in, fixed as fixed_in, four_below as four_below_in};
+ghost use Rattle.block_index.specs.Fields.{
+  four as four_in,
+  uvarint_field,
+  varint_field,
+  text_field,
+  reference_field,
+  pair_field,
+  later as later_in,
+  first_chunk as first_chunk_in,
+  next_chunk as next_chunk_in,
+  next_chunks as next_chunks_in,
+  chunks_field,
+  marked as marked_in,
+  fixed as fixed_in,
+  four_below as four_below_in,
+};
 
 use crate::fault::ReadFault;
 use crate::row::ChunkMeta;

@@ -10,7 +10,15 @@ ghost use Rattle.block_index.specs.Rows.{AreSmall};
 ghost use Rattle.block_index.specs.Sets.{IsAscending, rank, text_cmp};
 ghost use Rattle.std.specs.Ordering.{is_lt};
 ghost use Rattle.block_index.specs.Layout.{padding, framed as framed_text, counted as counted_text, put_all, places};
-ghost use Rattle.block_index.specs.Index.{next_chunk_text, first_chunk_text, later_chunks as later_chunks_text, chunks_text, label_refs, series_body as series_body_text, reference_step as reference_step_of};
+ghost use Rattle.block_index.specs.Index.{
+  next_chunk_text,
+  first_chunk_text,
+  later_chunks as later_chunks_text,
+  chunks_text,
+  label_refs,
+  series_body as series_body_text,
+  reference_step as reference_step_of,
+};
 
 use crate::row::{ChunkMeta, IndexRow};
 use block_text::{WriteFault, four_bytes_of, put_sum};

@@ -36,7 +36,8 @@ pub record IsResolving (v : ResolverValue) (e : Entry) (items : List (ℕ × Ite
 -- what is shown before and after some entries, read one after another, and their items with their slots
 pub data Resolves (v : ResolverValue) : List Entry → List (ℕ × Item) → ResolverValue → Type 0 where
   none : Resolves v [] [] v
-  more : (es : List Entry) (xs : List (ℕ × Item)) (m : ResolverValue) (e : Entry) (ys : List (ℕ × Item)) (w : ResolverValue) → Resolves v es xs m → IsResolving m e ys w → Resolves v (es ++ e ∷ []) (xs ++ ys) w
+  more : (es : List Entry) (xs : List (ℕ × Item)) (m : ResolverValue) (e : Entry) (ys : List (ℕ × Item)) (w : ResolverValue) → Resolves v es xs m →
+      IsResolving m e ys w → Resolves v (es ++ e ∷ []) (xs ++ ys) w
 
 -- an item that comes to this slot can't be counted
 abbrev pub IsItemStopped : Option ℕ → Item → Counts → Type 0

@@ -111,7 +111,8 @@ pub fn truncation()
 /// others, except for the counts of records and of expired entries: for the least valid time that it was made with and for every greater
 /// one.
 pub fn checkpoint()
-    ensures { (n m : ℤ) → n ≤ℤ m → (rs more : List LogRecord) (c d : Content) → IsContentOf (taken_of m (rewritten n rs ++ more)) c → c.min_valid ≡ m → IsContentOf (taken_of m (rs ++ more)) d → d.min_valid ≡ m →
+    ensures { (n m : ℤ) → n ≤ℤ m → (rs more : List LogRecord) (c d : Content) → IsContentOf (taken_of m (rewritten n rs ++ more)) c → c.min_valid ≡ m →
+        IsContentOf (taken_of m (rs ++ more)) d → d.min_valid ≡ m →
         AreAlike c (record d { counts = c.counts }) × HaveFates c.counts d.counts }
 {
     // the laws that the proof rests on

@@ -1,6 +1,42 @@
 //! Deals: items dealt to the slots of workers.
 
-ghost use Rattle.std.specs.Prelude.{◌≡◌, ℕ, ◌==◌, All, filter, min, ◌+◌, ◌*◌, ◌/◌, ◌^◌, ◌++◌, ◌∷◌, [], ◌<◌, ◌≤◌, ◌↔◌, length, map, List, Ok, None, IsOk, IsTrue, IfOk, OnOk, OnErr, IfErr, IsErrAnd, slice_get, Some, true, ◌%◌, ◌≢◌, slice_index_or, vec_capacity};
+ghost use Rattle.std.specs.Prelude.{
+  ◌≡◌,
+  ℕ,
+  ◌==◌,
+  All,
+  filter,
+  min,
+  ◌+◌,
+  ◌*◌,
+  ◌/◌,
+  ◌^◌,
+  ◌++◌,
+  ◌∷◌,
+  [],
+  ◌<◌,
+  ◌≤◌,
+  ◌↔◌,
+  length,
+  map,
+  List,
+  Ok,
+  None,
+  IsOk,
+  IsTrue,
+  IfOk,
+  OnOk,
+  OnErr,
+  IfErr,
+  IsErrAnd,
+  slice_get,
+  Some,
+  true,
+  ◌%◌,
+  ◌≢◌,
+  slice_index_or,
+  vec_capacity,
+};
 ghost use Rattle.head_deal.specs.Jobs.{Job, Queued, is_queued};
 ghost use Rattle.head_deal.specs.Dealing.{AllDone, AreShares, Course, Leads, RefusesDeal, SameEndings, Step, course, end_jobs, end_slots, ending_outcomes, ending_values, front, most_slots};
 ghost use Rattle.head_deal.specs.Endings.{item_at, job_endings, outcomes, slot_endings, told};
@@ -89,7 +125,8 @@ impl<B: Builder> Model for Deal<B> {
 
     ghost view = { λ d. held d.tag d.workers d.slots d.count d.parts.items };
 
-    ghost invariant = { λ d. Holds (held d.tag d.workers d.slots d.count d.parts.items) d.slots d.count d.parts.items × AreSeats d.workers d.seats.items × (length d.seats.items ≡ min d.slots (2 ^ 32)) };
+    ghost invariant = { λ d. Holds (held d.tag d.workers d.slots d.count d.parts.items) d.slots d.count d.parts.items × AreSeats d.workers d.seats.items ×
+        (length d.seats.items ≡ min d.slots (2 ^ 32)) };
 }
 
 impl<B: Builder> Deal<B> {
@@ -255,7 +292,8 @@ impl<B: Builder> Deal<B> {
         requires numbered { length self.old.jobs < 2 ^ 32 }
         ensures dealt { OnOk result (self.new ≡ record self.old { jobs = self.old.jobs ++ record { number = length self.old.jobs; slot = slot; state = Queued item } ∷ [] }) }
         ensures slots { OnOk result (end_slots B.after (course B.value self.new) ≡ map (item_at B.after slot item) (end_slots B.after (course B.value self.old))) }
-        ensures items { OnOk result (end_jobs B.after B.outcome (course B.value self.new) ≡ end_jobs B.after B.outcome (course B.value self.old) ++ told B.outcome (end_slots B.after (course B.value self.old)) (record { number = length self.old.jobs; slot = slot; state = Queued item }) ∷ []) }
+        ensures items { OnOk result (end_jobs B.after B.outcome (course B.value self.new) ≡ end_jobs B.after B.outcome (course B.value self.old) ++
+            told B.outcome (end_slots B.after (course B.value self.old)) (record { number = length self.old.jobs; slot = slot; state = Queued item }) ∷ []) }
         ensures handed_back { IfErr result (λ i. i ≡ item) }
         ensures refused { OnErr result (self.new ≡ self.old) }
     {

@@ -1,13 +1,64 @@
 //! Joining of parts.
 
-ghost use Rattle.std.specs.Prelude.{◌≡◌, ℕ, ◌==◌, ◌+◌, ◌*◌, ◌^◌, ◌++◌, ◌<◌, ◌≤◌, [], length, map, drop, slice_set, Some, None, replicate, true, false, not, List, Option, IfOk, IfErr, IsErrAnd, IsOk, OnOk, vec_len, vec_capacity};
+ghost use Rattle.std.specs.Prelude.{
+  ◌≡◌,
+  ℕ,
+  ◌==◌,
+  ◌+◌,
+  ◌*◌,
+  ◌^◌,
+  ◌++◌,
+  ◌<◌,
+  ◌≤◌,
+  [],
+  length,
+  map,
+  drop,
+  slice_set,
+  Some,
+  None,
+  replicate,
+  true,
+  false,
+  not,
+  List,
+  Option,
+  IfOk,
+  IfErr,
+  IsErrAnd,
+  IsOk,
+  OnOk,
+  vec_len,
+  vec_capacity,
+};
 ghost use Rattle.std.specs.List.{list_any, flat_map};
 ghost use Rattle.std.specs.Prelude.{All};
 ghost use Rattle.head_deal.specs.Jobs.{is_queued};
 ghost use Rattle.head_deal.specs.Endings.{outcomes};
 ghost use Rattle.head_deal.specs.Entries.{entries};
 ghost use Rattle.head_deal.specs.Dealing.{strided, course, ending_values, ending_outcomes};
-ghost use Rattle.head_deal.specs.Joining.{is_alike, has_stranger, has_worker, has_double, lacks, has_missing, has_unfinished, join_fault, scatter, filled, copies_of, first_of, in_order, numbered, written, IsPartOf, IsDeal, first_jobs, first_slots, RefusesJoin};
+ghost use Rattle.head_deal.specs.Joining.{
+  is_alike,
+  has_stranger,
+  has_worker,
+  has_double,
+  lacks,
+  has_missing,
+  has_unfinished,
+  join_fault,
+  scatter,
+  filled,
+  copies_of,
+  first_of,
+  in_order,
+  numbered,
+  written,
+  IsPartOf,
+  IsDeal,
+  first_jobs,
+  first_slots,
+  RefusesJoin,
+};
 
 use crate::Builder;
 use crate::parts::{Due, Part};

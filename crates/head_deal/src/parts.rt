@@ -40,9 +40,18 @@ impl<B: Builder> Model for Part<B> {
 
     ghost Value = { Share B B.Item B.Outcome };
 
-    ghost view = { λ p. record { tag = p.tag; workers = p.workers; worker = p.worker; all_slots = p.all_slots; all_jobs = p.all_jobs; slots = strided p.worker p.workers p.builders.items; jobs = entries p.worker p.workers p.dues.items p.outcomes.items } };
+    ghost view = { λ p. record {
+      tag = p.tag;
+      workers = p.workers;
+      worker = p.worker;
+      all_slots = p.all_slots;
+      all_jobs = p.all_jobs;
+      slots = strided p.worker p.workers p.builders.items;
+      jobs = entries p.worker p.workers p.dues.items p.outcomes.items;
+    } };
 
-    ghost invariant = { λ p. (p.worker < p.workers) × All (λ due. due.element < length p.builders.items) p.dues.items × (length p.outcomes.items ≤ length p.dues.items) × (p.worker + length p.builders.items * p.workers < 2 ^ 64) };
+    ghost invariant = { λ p. (p.worker < p.workers) × All (λ due. due.element < length p.builders.items) p.dues.items ×
+        (length p.outcomes.items ≤ length p.dues.items) × (p.worker + length p.builders.items * p.workers < 2 ^ 64) };
 }
 
 /// Applies the items that a part has left, in the order of dealing. Returns an error, and stops at the item that was refused, if out of
@@ -73,9 +82,11 @@ fn run_dues<B: Builder>(
     requires workers { worker < workers }
     requires fit { All (λ due. due.element < length builders.old.items) dues.now.items }
     requires some { length outcomes.old.items ≤ length dues.now.items }
-    ensures endings { SameEndings B.after B.outcome (share_lists B.value workers worker builders.old.items (entries worker workers dues.now.items outcomes.old.items)) (share_lists B.value workers worker builders.new.items (entries worker workers dues.now.items outcomes.new.items)) }
+    ensures endings { SameEndings B.after B.outcome (share_lists B.value workers worker builders.old.items (entries worker workers dues.now.items outcomes.old.items))
+        (share_lists B.value workers worker builders.new.items (entries worker workers dues.now.items outcomes.new.items)) }
     ensures steps { (n : ℕ) ×
-        Leads B.after B.outcome (replicate n worker) (share_lists B.value workers worker builders.old.items (entries worker workers dues.now.items outcomes.old.items)) (share_lists B.value workers worker builders.new.items (entries worker workers dues.now.items outcomes.new.items)) }
+        Leads B.after B.outcome (replicate n worker) (share_lists B.value workers worker builders.old.items (entries worker workers dues.now.items outcomes.old.items))
+        (share_lists B.value workers worker builders.new.items (entries worker workers dues.now.items outcomes.new.items)) }
     ensures done { OnOk result (AllDone (entries worker workers dues.now.items outcomes.new.items)) }
     ensures stopped { OnErr result ((place : ℕ) × StoppedAt (entries worker workers dues.now.items outcomes.old.items) (entries worker workers dues.now.items outcomes.new.items) place) }
     ensures builders { length builders.new.items ≡ length builders.old.items }
@@ -221,7 +232,15 @@ pub(crate) fn build_parts<B: Builder>(
     requires small { all_slots + workers < 2 ^ 64 }
     ensures each { length parts.new.items ≡ workers }
     ensures built { (k : ℕ) (p : _) (d : _) → k < workers →
-        slice_index_or parts.new.items k p ≡ record { tag = tag; workers = workers; worker = k; all_slots = all_slots; all_jobs = 0; slots = strided k workers (slice_index_or rows.old.items k d).items; jobs = [] } }
+        slice_index_or parts.new.items k p ≡ record {
+          tag = tag;
+          workers = workers;
+          worker = k;
+          all_slots = all_slots;
+          all_jobs = 0;
+          slots = strided k workers (slice_index_or rows.old.items k d).items;
+          jobs = [];
+        } }
 {
     for worker in 0..workers {
         let builders = mem::replace(&mut rows[worker], Vec::new(alloc));

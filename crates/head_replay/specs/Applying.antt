@@ -14,7 +14,8 @@ use Rattle.head_core.specs.Applied.{values_after, outcomes_after, new_slots, Are
 -- These items, applied to these slots one after another, make what the deal ends with. The counts are those of the outcomes that were
 -- counted
 -- in rounds before it.
-pub record Ends {B V : Type 0} (value : B → V) (after : V → Item → V) (outcome : V → Item → Outcome) (slots : List (ℕ × V)) (items : List (ℕ × Item)) (d : Dealing B Item Outcome) (c : Counts) : Type 0 where
+pub record Ends {B V : Type 0} (value : B → V) (after : V → Item → V) (outcome : V → Item → Outcome) (slots : List (ℕ × V)) (items : List (ℕ ×
+    Item)) (d : Dealing B Item Outcome) (c : Counts) : Type 0 where
   pub values : end_slots after (course value d) ≡ values_after after slots items
   pub counted : List Outcome
   pub outcomes : counted ++ ending_outcomes after outcome (course value d) ≡ outcomes_after after outcome slots items
@@ -27,7 +28,8 @@ pub record HasResolved (m : ℤ) (rs : List WalRecord) (r : ResolverValue) : Typ
 
 -- The resolver has what these records say with the least valid time m, and the deal ends with what their valid items make of a new slot for
 -- each series.
-pub record IsBuilt {B V : Type 0} (value : B → V) (after : V → Item → V) (outcome : V → Item → Outcome) (new : V) (m : ℤ) (rs : List WalRecord) (r : ResolverValue) (d : Dealing B Item Outcome) (c : Counts) : Type 0 where
+pub record IsBuilt {B V : Type 0} (value : B → V) (after : V → Item → V) (outcome : V → Item →
+    Outcome) (new : V) (m : ℤ) (rs : List WalRecord) (r : ResolverValue) (d : Dealing B Item Outcome) (c : Counts) : Type 0 where
   pub resolved_by : HasResolved m rs r
   pub sound : r.failed ≡ false
   pub limits : IsResolvable (taken_of m rs)

@@ -99,7 +99,21 @@ impl Model for SeriesTable {
 
     ghost Value = { Table };
 
-    ghost view = { λ t. record { series = map (labels_in t.texts.texts) (map (λ r. r.numbers.items) t.rows.items); slots = pairs_of t.references.slots; greatest = t.greatest; texts = t.texts.texts; most = t.most; room = record { rows = vec_capacity t.rows - vec_len t.rows; lower_bounds = t.references.room; last_by_hash = spare t.last_by_hash; texts = t.texts.room; places = length t.references.slots.low; high = t.references.slots.room } } };
+    ghost view = { λ t. record {
+      series = map (labels_in t.texts.texts) (map (λ r. r.numbers.items) t.rows.items);
+      slots = pairs_of t.references.slots;
+      greatest = t.greatest;
+      texts = t.texts.texts;
+      most = t.most;
+      room = record {
+        rows = vec_capacity t.rows - vec_len t.rows;
+        lower_bounds = t.references.room;
+        last_by_hash = spare t.last_by_hash;
+        texts = t.texts.room;
+        places = length t.references.slots.low;
+        high = t.references.slots.room;
+      };
+    } };
 
     ghost invariant = { λ t. IsSound t.texts t.most (map (λ r. r.numbers.items) t.rows.items) (map (λ r. r.previous) t.rows.items) t.last_by_hash.entries t.references.series };
 }
