@@ -67,6 +67,32 @@ pub put_whole : {X E : Type 0} (r : Result X E) (new old added all : List ℕ) �
 put_whole (Ok x) new old added all e is = e ∙ ap (λ (t : List ℕ). old ++ t) is
 put_whole (Err x) new old added all e is = tt
 
+-- ---- how many they are
+
+-- `len` groups are counted, and the rest of the number gives the others of `all`
+pub record GroupsCounted (len rest all : ℕ) : Type 0 where
+  pub short : len ≤ 9
+  pub small : rest < 2 * 128 ^ (9 - len)
+  pub parts : len + length (uvarint_in (9 - len) rest) ≡ all
+
+pub counted-none : (n : ℕ) → n < 2 ^ 64 → GroupsCounted 0 n (length (uvarint n))
+unfolding uvarint
+counted-none n h = record { short = omega arith; small = omega (arith, h); parts = omega arith }
+
+pub counted-more : (len rest all : ℕ) → GroupsCounted len rest all → 128 ≤ rest → GroupsCounted (len + 1) (rest / 128) all
+counted-more len rest all s large =
+    let below : len < 9 = below_last len rest s.short s.small large in
+    let left : 9 - len ≡ suc (9 - (len + 1)) = omega (arith, below) in
+    let group : length (uvarint_in (9 - len) rest) ≡ suc (length (uvarint_in (9 - (len + 1)) (rest / 128))) = ap (λ (k : ℕ). length (uvarint_in k rest)) left ∙ ap length (uvarint_in-more (9 - (len + 1)) rest large) in
+    record {
+      short = omega (arith, below);
+      small = room (9 - (len + 1)) rest (subst (λ (k : ℕ). rest < 2 * 128 ^ k) left s.small);
+      parts = omega (arith, group, s.parts);
+    }
+
+pub counted-last : (len rest all : ℕ) → GroupsCounted len rest all → rest < 128 → len + 1 ≡ all
+counted-last len rest all s small = omega (arith, s.parts, ap length (uvarint_in-last (9 - len) rest small))
+
 -- ---- what is written is a spelling
 
 record Spells (k n : ℕ) : Type 0 where

@@ -16,4 +16,6 @@ pub use checksum::crc32c;
 pub use items::Items;
 pub use laws::{checksum_fits, one_spelling, shortest_spelling};
 pub use numbers::{be16_at, be32_at, be64_at, text_at, uvarint_at, varint_at};
-pub use writing::{put_be16, put_be32, put_be64, put_text, put_uvarint, put_varint};
+pub use writing::{
+    put_be16, put_be32, put_be64, put_text, put_uvarint, put_varint, uvarint_len, varint_len,
+};

@@ -1,6 +1,7 @@
-//! Writers of numbers and texts. Each appends to some bytes, and leaves them unchanged if out of memory.
+//! Writers of numbers and texts, and the lengths of what they write. A writer appends to some bytes, and leaves them unchanged if out of
+//! memory.
 
-ghost use Rattle.std.specs.Prelude.{◌≡◌, ◌++◌, OnOk, OnErr};
+ghost use Rattle.std.specs.Prelude.{◌≡◌, ◌≤◌, ◌++◌, OnOk, OnErr, length};
 ghost use Rattle.byteorder.specs.Endian.{big_bytes};
 ghost use Rattle.hw_bytes.specs.Numbers.{zigzag as zigzag_of};
 ghost use Rattle.hw_bytes.specs.Writing.{uvarint, varint, text as text_of};
@@ -51,6 +52,20 @@ pub fn put_uvarint(bytes: &mut Vec<u8>, number: u64) -> Result<(), AllocError>
     bytes.extend_from_slice(&spelled[..len + 1])
 }
 
+/// Returns the length of the shortest uvarint of the number, 1 to 10.
+pub fn uvarint_len(number: u64) -> usize
+    ensures value { result ≡ length (uvarint number) }
+    ensures most { result ≤ 10 }
+{
+    let mut len = 0;
+    let mut rest = number;
+    while rest >= 128 {
+        len += 1;
+        rest /= 128;
+    }
+    len + 1
+}
+
 // Returns 2n for n >= 0, and -2n - 1 for n < 0.
 fn zigzag(number: i64) -> u64
     ensures { result ≡ zigzag_of number }
@@ -68,6 +83,14 @@ pub fn put_varint(bytes: &mut Vec<u8>, number: i64) -> Result<(), AllocError>
     ensures refused { OnErr result (bytes.new.items ≡ bytes.old.items) }
 {
     put_uvarint(bytes, zigzag(number))
+}
+
+/// Returns the length of the shortest varint of the signed number, 1 to 10.
+pub fn varint_len(number: i64) -> usize
+    ensures value { result ≡ length (varint number) }
+    ensures most { result ≤ 10 }
+{
+    uvarint_len(zigzag(number))
 }
 
 /// Appends the text: the shortest uvarint of its length, and then its bytes. Unchanged if out of memory.
