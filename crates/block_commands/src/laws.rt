@@ -1,14 +1,18 @@
-//! The law of the whole.
+//! The laws of the whole.
 
-ghost use Rattle.std.specs.Prelude.{◌≡◌, ℤ, List, Option};
+ghost use Rattle.std.specs.Prelude.{◌≡◌, ◌≤ℤ◌, ◌++◌, ℕ, ℤ, List, Option, Some};
 ghost use Rattle.wal_record.specs.Validity.{least_time};
+ghost use Rattle.wal_log.specs.Checkpoints.{IsCheckpointOf};
 ghost use Rattle.wal_log.specs.Inputs.{Files};
+ghost use Rattle.wal_log.specs.declared.input.Checkpoint.{Checkpoint as LogCheckpoint};
+ghost use Rattle.wal_log.specs.declared.input.Segment.{Segment as LogSegment};
 ghost use Rattle.wal_log.specs.declared.reading.Damage.{Damage as LogDamage};
 ghost use Rattle.wal_log.specs.declared.reading.Placed.{Placed as PlacedRecord};
 ghost use Rattle.wal_log.specs.Log.{IsReading, contents};
 ghost use Rattle.head_core.specs.Taken.{taken_of};
 ghost use Rattle.head_core.specs.Content.{AreAlike, Content};
 ghost use Rattle.head_core.specs.Replays.{IsReplayed};
+ghost use Rattle.head_core.specs.Validity.{HaveFates};
 ghost use Rattle.block_text.specs.Sums.{Text};
 ghost use Rattle.block_read.specs.declared.block.Block.{Block as Parts};
 ghost use Rattle.block_read.specs.Blocks.{IsBlockOf};
@@ -16,8 +20,8 @@ ghost use Rattle.block_cut.specs.Logs.{IsBlockOfLog};
 ghost use Rattle.block_cut.specs.Rows.{rows_of};
 
 use block_cut::one_block;
-use head_core::one_content;
-use wal_log::one_reading;
+use head_core::{checkpoint, one_content};
+use wal_log::{checkpoint_reads, one_reading};
 use wal_record::valid_records;
 
 /// For every checkpoint, list of segments and number of workers, where no memory and no thread is refused, the head that `replay` gives and
@@ -47,4 +51,21 @@ pub fn no_limit()
 {
     // a law that the proof uses
     valid_records();
+}
+
+/// A checkpoint made by `make_checkpoint`, with the segments after it, replays to the same head.
+///
+/// Let a log be a checkpoint or none and segments, and let a new checkpoint be made of the first of these with a least valid time. The new
+/// checkpoint with the other segments, and the whole log, replayed with that time or a later one, agree in series, samples, hidden runs,
+/// postings, owners, all counts but those of records and of expired entries, and the damage.
+pub fn checkpoint_equivalence()
+    ensures { (pages : ℕ) (n m : ℤ) → n ≤ℤ m → (old : Option LogCheckpoint) (first others : List LogSegment) (new : LogCheckpoint) (damage other : Option LogDamage) (short whole : Content) →
+        IsCheckpointOf pages n (record { checkpoint = old; segments = first }) new →
+        IsReplayed (record { checkpoint = Some new; segments = others }) m damage short →
+        IsReplayed (record { checkpoint = old; segments = first ++ others }) m other whole →
+        (damage ≡ other) × AreAlike short (record whole { counts = short.counts }) × HaveFates short.counts whole.counts }
+{
+    // laws that the proof uses
+    checkpoint_reads();
+    checkpoint();
 }

@@ -13,7 +13,7 @@ mod report;
 mod writing;
 
 pub use commands::carry_out_block;
-pub use laws::{however_dealt, no_limit};
+pub use laws::{checkpoint_equivalence, however_dealt, no_limit};
 pub use parts::read_parts;
 pub use prom_store::{BlockRequest, CutRequest};
 pub use writing::write_block;

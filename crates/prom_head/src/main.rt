@@ -1,4 +1,5 @@
-//! Reads the write-ahead log of a time series database and prints what it holds, or cuts an hour of it into a block.
+//! Reads the write-ahead log of a time series database and prints what it holds, cuts an hour of it into a block, appends rows to it, or
+//! makes a checkpoint of it.
 #![tactic(auto)]
 
 mod program;

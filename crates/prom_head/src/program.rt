@@ -1,7 +1,7 @@
 //! The program, over any store.
 
 use block_commands::carry_out_block;
-use live_commands::carry_out_append;
+use live_commands::{carry_out_append, carry_out_checkpoint};
 use prom_commands::{Answer, Progress, carry_out};
 use prom_line::{Asked, parse};
 use prom_store::{LineFault, Status, Store};
@@ -21,6 +21,7 @@ pub fn run<R: AllocGlobal + Threads + Wait + Sync, S: Store, P: Progress + Sync>
         Ok(Asked::OfLog(request)) => Ok(carry_out(rt, alloc, store, progress, request)),
         Ok(Asked::OfBlocks(request)) => Ok(carry_out_block(rt, alloc, store, progress, request)),
         Ok(Asked::Append(request)) => Ok(carry_out_append(rt, alloc, store, progress, request)),
+        Ok(Asked::Checkpoint(request)) => Ok(carry_out_checkpoint(alloc, store, request)),
         Err(error) if error.use_stderr() => Err(LineFault::from(error)),
         Err(help) => Ok(Answer::done(help.to_string(alloc)?, Status::Done)),
     }

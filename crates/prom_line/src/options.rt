@@ -3,7 +3,7 @@
 use clap::error::ErrorKind;
 use clap::{Arg, ArgMatches, Command, Error, value_parser};
 use head_replay::Options;
-use prom_store::{AppendRequest, BlockRequest, CutRequest, Request};
+use prom_store::{AppendRequest, BlockRequest, CheckpointRequest, CutRequest, Request};
 use std::alloc::{AllocError, Global};
 
 /// The request of a command line.
@@ -15,6 +15,8 @@ pub enum Asked<'a> {
     OfBlocks(BlockRequest<'a>),
     /// Append rows to a log.
     Append(AppendRequest<'a>),
+    /// Make a checkpoint of a log.
+    Checkpoint(CheckpointRequest<'a>),
 }
 
 // These functions take the lifetime of the words, though their own texts are static: the borrow checker does not shorten a lifetime
@@ -152,6 +154,13 @@ fn append<'a>(alloc: Global) -> Result<Command<'a>, AllocError> {
         .arg(rows)
 }
 
+fn checkpoint<'a>(alloc: Global) -> Result<Command<'a>, AllocError> {
+    Command::new(alloc, "checkpoint")
+        .about("Makes a checkpoint of the log")
+        .arg(dir(alloc))?
+        .arg(min_valid(alloc).required(true))
+}
+
 // Adds a subcommand. It is the one place where an unfinished command is dropped, which is dear to prove.
 fn with<'a>(
     command: Command<'a>,
@@ -171,7 +180,8 @@ fn command<'a>(alloc: Global) -> Result<Command<'a>, AllocError> {
     let command = with(command, replaying(alloc, ranges(alloc)))?;
     let command = with(command, replaying(alloc, cut(alloc)))?;
     let command = with(command, block(alloc))?;
-    with(command, replaying(alloc, append(alloc)))
+    let command = with(command, replaying(alloc, append(alloc)))?;
+    with(command, checkpoint(alloc))
 }
 
 // Returns the options of replay. Where no least valid time is given, it is the least of all times, so that nothing is expired.
@@ -232,6 +242,16 @@ fn of_append<'a>(matches: &ArgMatches<'a>) -> Option<AppendRequest<'a>> {
     }
 }
 
+fn of_checkpoint<'a>(matches: &ArgMatches<'a>) -> Option<CheckpointRequest<'a>> {
+    match matches.subcommand()? {
+        ("checkpoint", of) => Some(CheckpointRequest {
+            dir: of.get_str("dir")?,
+            min_valid: of.get_one("min-valid")?,
+        }),
+        _ => None,
+    }
+}
+
 fn requested<'a>(matches: &ArgMatches<'a>) -> Option<Asked<'a>> {
     if let Some(request) = of_log(matches) {
         return Some(Asked::OfLog(request));
@@ -239,7 +259,10 @@ fn requested<'a>(matches: &ArgMatches<'a>) -> Option<Asked<'a>> {
     if let Some(request) = of_blocks(matches) {
         return Some(Asked::OfBlocks(request));
     }
-    Some(Asked::Append(of_append(matches)?))
+    if let Some(request) = of_append(matches) {
+        return Some(Asked::Append(request));
+    }
+    Some(Asked::Checkpoint(of_checkpoint(matches)?))
 }
 
 fn matched<'a>(command: &mut Command<'a>, words: &'a [String]) -> Result<Option<Asked<'a>>, Error> {

@@ -2,12 +2,14 @@
 
 ghost use Rattle.std.specs.Prelude.{◌≡◌, ◌↔◌, ◌⊎◌};
 ghost use Rattle.wal_log.specs.declared.plan.PlanFault.TheVariants as plan;
+ghost use Rattle.wal_log.specs.declared.checkpoint.CheckpointFault.TheVariants as checkpoint;
 ghost use Rattle.wal_log.specs.declared.input.InputFault.TheVariants as input;
+ghost use Rattle.wal_log.specs.declared.reading.Damage.{Damage as LogDamage};
 ghost use Rattle.block_index.specs.declared.fault.ReadFault.TheVariants as index;
 ghost use Rattle.block_index.specs.declared.fault.ReadFault.{ReadFault as IndexFault};
 ghost use Rattle.block_read.specs.declared.fault.BlockFault.TheVariants as block;
 ghost use Rattle.head_replay.specs.declared.fault.ReplayFault.TheVariants as replay;
-ghost use Rattle.prom_store.specs.declared.fault.Fault.TheVariants.{BadChunks, BadIndex, BadMeta, BadTombstones, BadUlid, Full, Gap, NoPair, OutOfMemory, TooLarge, Workers};
+ghost use Rattle.prom_store.specs.declared.fault.Fault.TheVariants.{BadChunks, BadIndex, BadMeta, BadTombstones, BadUlid, Full, Gap, NoLog, NoPair, OutOfMemory, TooLarge, Workers};
 ghost use Rattle.prom_store.specs.Faults.{TellsDamage, TellsUnread, TellsUnwritten};
 
 use crate::damage::DamageLine;
@@ -19,7 +21,7 @@ use std::alloc::{AllocError, AllocFailed, Global};
 use std::error::Error;
 use std::fmt;
 use std::process::ExitCode;
-use wal_log::{InputFault, InputRefused, PlanFault};
+use wal_log::{CheckpointFault, InputFault, InputRefused, PlanFault};
 
 /// The program's exit status.
 #[derive(Clone, Copy, Debug, PartialEq, Eq)]
@@ -68,9 +70,12 @@ pub enum Fault {
     NotFull,
     /// No accepted sample is in the hour.
     NoSamples,
+    /// The directory has no log to make a checkpoint of.
+    NoLog,
     /// A number between two files of the log is missing, or two files have the same number.
     Gap,
-    /// The files of the log have 2^64 bytes or more in total, or a block is larger than its index can say.
+    /// The files of the log have 2^64 bytes or more in total, a block is larger than its index can say, or a record of a checkpoint is
+    /// larger than a file of it may be.
     TooLarge,
     /// The log has more series, label texts or entries than a head may have.
     Full,
@@ -130,6 +135,7 @@ impl Fault {
             Fault::Edge => "hour at the edge of time",
             Fault::NotFull => "hour not full",
             Fault::NoSamples => "no samples in hour",
+            Fault::NoLog => "no log to keep",
             Fault::Gap => "gap in segment numbers",
             Fault::TooLarge => "too large",
             Fault::Full => "too many series",
@@ -159,6 +165,7 @@ impl Fault {
             | Fault::BadMeta => Status::Damaged,
             Fault::CannotRead { .. }
             | Fault::CannotWrite { .. }
+            | Fault::NoLog
             | Fault::Gap
             | Fault::TooLarge
             | Fault::Full
@@ -233,6 +240,20 @@ impl From<InputRefused> for Fault {
             InputFault::TooLong => Fault::TooLarge,
             // a plan has no segment at or below its checkpoint
             InputFault::BelowCheckpoint | InputFault::Gap => Fault::Gap,
+        }
+    }
+}
+
+impl From<CheckpointFault> for Fault {
+    ghost from_gives = { λ e f. ((f ≡ OutOfMemory) ↔ (e ≡ checkpoint.Memory)) × ((f ≡ NoLog) ↔ (e ≡ checkpoint.NoLog)) × ((f ≡ TooLarge) ↔ (e ≡ checkpoint.TooLarge))
+        × ((damage : LogDamage) → e ≡ checkpoint.Damaged damage → TellsDamage f) };
+
+    fn from(fault: CheckpointFault) -> Fault {
+        match fault {
+            CheckpointFault::NoLog => Fault::NoLog,
+            CheckpointFault::Damaged(damage) => Fault::Damage(DamageLine(damage)),
+            CheckpointFault::TooLarge => Fault::TooLarge,
+            CheckpointFault::Memory => Fault::OutOfMemory,
         }
     }
 }

@@ -12,5 +12,5 @@ pub use damage::{DamageLine, kind_of_file};
 pub use disk::{Disk, names_of, read_whole};
 pub use fault::{Fault, Status};
 pub use line::LineFault;
-pub use requests::{AppendRequest, BlockRequest, CutRequest, Request};
+pub use requests::{AppendRequest, BlockRequest, CheckpointRequest, CutRequest, Request};
 pub use store::{Store, StoreFault};

@@ -51,3 +51,10 @@ pub struct AppendRequest<'a> {
     pub rows: &'a str,
     pub options: Options,
 }
+
+/// A request to make a checkpoint of the log in the directory `dir`, with the least valid time `min_valid`.
+#[derive(Clone, Copy, Debug, PartialEq, Eq)]
+pub struct CheckpointRequest<'a> {
+    pub dir: &'a str,
+    pub min_valid: i64,
+}
