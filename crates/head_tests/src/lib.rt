@@ -29,6 +29,8 @@ mod building;
 #[cfg(test)]
 mod cases;
 #[cfg(test)]
+mod checkpoints;
+#[cfg(test)]
 mod chunks;
 #[cfg(test)]
 mod columns;
