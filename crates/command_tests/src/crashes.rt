@@ -1,8 +1,8 @@
-//! What stands after a crash at each call of `append` and of `cut`, and the order of their calls.
+//! What stands after a crash at each call of `append`, `cut` and `checkpoint`, and the order of their calls.
 
 use crate::checks::{ULID, names, same};
 use crate::fragments::*;
-use crate::runs::{APPEND, CUT, Case, carried_out, complaint, shelf_of};
+use crate::runs::{APPEND, CHECKPOINT, CUT, Case, carried_out, complaint, shelf_of};
 use crate::shelf::Shelf;
 use crate::tree::Kept;
 use block_commands::BlockRequest;
@@ -147,6 +147,52 @@ fn crash_at_each_call_of_cut(rt: HostRuntime) -> Result<(), StoreFault> {
     Ok(())
 }
 
+const REPLAY_FROM_3000: Asked<'static> = Asked::OfLog(Request::Replay {
+    dir: "log",
+    options: Options {
+        workers: 4,
+        round_pages: 256,
+        min_valid: 3000,
+    },
+});
+
+// What `replay` prints of the log of three series, and of its checkpoint, of which two samples fewer are expired.
+fn counts_of_three(alloc: Global, expired: u64) -> Result<String, AllocError> {
+    format!(in alloc;
+        "series_records 1\nsample_records 1\nstone_records 0\nskipped_records 0\n\
+        series_entries 3\nseries 3\naccepted 2\nstale 0\nunknown 0\nhiding 0\nempty_stones 0\nunknown_stones 0\n\
+        expired_samples {expired}\nexpired_stones 0\ndamage none\n"
+    )
+}
+
+// The log stands, alone or with the whole checkpoint, which is there where the run had ended well. It is replayed to the same.
+fn assert_checkpoint<R: Abort + Threads + Wait + Sync + AllocGlobal>(
+    rt: &R,
+    crash: Crash,
+) -> Result<(), StoreFault> {
+    let alloc = rt.alloc();
+    let (mut shelf, is_done) = crashed(rt, &CHECKPOINT, crash)?;
+    let is_there = names(alloc, &mut shelf, "log")?
+        .split(' ')
+        .any(|name| name == "checkpoint.00000001");
+    same(rt, crash, is_there || !is_done, true);
+    let wanted = counts_of_three(alloc, if is_there { 0 } else { 2 })?;
+    let found = carried_out(rt, &mut shelf, &NoGate, REPLAY_FROM_3000);
+    same(rt, crash, found.printed.as_str(), wanted.as_str());
+    Ok(())
+}
+
+// There are 11 calls.
+#[test]
+fn crash_at_each_call_of_checkpoint(rt: HostRuntime) -> Result<(), StoreFault> {
+    for call in 1..13 {
+        for kept in WAYS {
+            assert_checkpoint(&rt, (call, kept))?;
+        }
+    }
+    Ok(())
+}
+
 const CALLS_OF_APPEND: &str = "read_dir log
 read log/00000000
 read rows
@@ -184,9 +230,28 @@ rename out/01ARZ3NDEKTSV4RRFFQ69G5FAV.tmp out/01ARZ3NDEKTSV4RRFFQ69G5FAV
 sync_dir out
 ";
 
+// The record of series takes 54 bytes, and that of two samples 47: a base of 16, the first with two deltas of a byte, the second with one
+// of a byte and one of four.
+const CALLS_OF_CHECKPOINT: &str = "read_dir log
+read log/00000000
+read log/00000001
+read_dir log
+create_dir log/checkpoint.00000001.tmp
+create_new log/checkpoint.00000001.tmp/00000000
+write log/checkpoint.00000001.tmp/00000000 101
+sync_file log/checkpoint.00000001.tmp/00000000
+sync_dir log/checkpoint.00000001.tmp
+rename log/checkpoint.00000001.tmp log/checkpoint.00000001
+sync_dir log
+";
+
 #[test]
 fn calls_in_order(rt: HostRuntime) -> Result<(), StoreFault> {
-    for (case, wanted) in [(APPEND, CALLS_OF_APPEND), (CUT, CALLS_OF_CUT)] {
+    for (case, wanted) in [
+        (APPEND, CALLS_OF_APPEND),
+        (CUT, CALLS_OF_CUT),
+        (CHECKPOINT, CALLS_OF_CHECKPOINT),
+    ] {
         let mut shelf = shelf_of(rt.alloc(), &case)?;
         carried_out(&rt, &mut shelf, &NoGate, case.asked);
         same(&rt, case.dir, shelf.notes()?.as_str(), wanted);

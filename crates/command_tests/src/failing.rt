@@ -3,7 +3,8 @@
 use crate::checks::{assert_names, same};
 use crate::fragments::*;
 use crate::runs::{
-    APPEND, CUT, Case, Left, OPTIONS, OUT_OF_MEMORY, carried_out, complaint, replayed_by, shelf_of,
+    APPEND, CHECKPOINT, CUT, Case, Left, OPTIONS, OUT_OF_MEMORY, carried_out, complaint,
+    replayed_by, shelf_of,
 };
 use block_commands::BlockRequest;
 use head_replay::NoGate;
@@ -218,4 +219,37 @@ fn each_call_of_append_fails(rt: HostRuntime) -> Result<(), StoreFault> {
         }
     }
     Ok(())
+}
+
+const NO_CHECKPOINT: &str = "cannot write log/checkpoint.00000001";
+
+const NO_DIRECTORY: &str = "cannot write log/checkpoint.00000001.tmp";
+
+const NO_FILE: &str = "cannot write log/checkpoint.00000001.tmp/00000000";
+
+const ALONE: &str = " 00000000 00000001";
+
+const WITH_UNFINISHED: &str = " 00000000 00000001 checkpoint.00000001.tmp";
+
+const WITH_CHECKPOINT: &str = " 00000000 00000001 checkpoint.00000001";
+
+// The log is read and listed once more; the directory is made, the file is made, written and synced, then the directory is synced and
+// renamed, and the log's directory is synced. No segment is taken away.
+#[test]
+fn each_call_of_checkpoint_fails(rt: HostRuntime) -> Result<(), StoreFault> {
+    let calls = [
+        ("cannot read log", ALONE),
+        ("cannot read log/00000000", ALONE),
+        ("cannot read log/00000001", ALONE),
+        ("cannot read log", ALONE),
+        (NO_DIRECTORY, ALONE),
+        (NO_FILE, WITH_UNFINISHED),
+        (NO_FILE, WITH_UNFINISHED),
+        (NO_FILE, WITH_UNFINISHED),
+        (NO_DIRECTORY, WITH_UNFINISHED),
+        (NO_CHECKPOINT, WITH_UNFINISHED),
+        (NO_CHECKPOINT, WITH_CHECKPOINT),
+    ];
+    let done = (0, "checkpoint 00000001\nrecords 2\n", "");
+    assert_each(&rt, &CHECKPOINT, &calls, (done, WITH_CHECKPOINT))
 }

@@ -4,7 +4,7 @@
 use crate::checks::same;
 use block_commands::{BlockRequest, CutRequest};
 use head_replay::Options;
-use live_commands::AppendRequest;
+use live_commands::{AppendRequest, CheckpointRequest};
 use prom_commands::Request;
 use prom_line::{Asked, parse};
 use prom_store::Fault;
@@ -103,12 +103,14 @@ fn options_of_each_command(rt: HostRuntime) -> Result<(), AllocError> {
         )?;
         assert_asked(&rt, &line, wanted)?;
     }
-    Ok(())
+    let checkpoint = CheckpointRequest { dir, min_valid: -5 };
+    let line = "prom_head checkpoint log --min-valid=-5";
+    assert_asked(&rt, line, Asked::Checkpoint(checkpoint))
 }
 
 // Each fault that stands for itself, with its status and its text. That rows are longer than a segment of 134,217,728 bytes is shown of the
 // log's writer, in small. No run here is refused a thread, or comes to a head that is full.
-const FAULTS: [(Fault, u8, &str); 15] = [
+const FAULTS: [(Fault, u8, &str); 16] = [
     (Fault::NoPair, 2, "pair must be NAME=VALUE"),
     (Fault::BadUlid, 2, "ulid must be 26 Crockford characters"),
     (Fault::BadChunks, 1, "bad chunks"),
@@ -117,6 +119,7 @@ const FAULTS: [(Fault, u8, &str); 15] = [
     (Fault::Edge, 3, "hour at the edge of time"),
     (Fault::NotFull, 3, "hour not full"),
     (Fault::NoSamples, 3, "no samples in hour"),
+    (Fault::NoLog, 3, "no log to keep"),
     (Fault::Gap, 3, "gap in segment numbers"),
     (Fault::TooLarge, 3, "too large"),
     (Fault::Full, 3, "too many series"),

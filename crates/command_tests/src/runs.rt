@@ -5,7 +5,7 @@ use crate::fragments::*;
 use crate::shelf::Shelf;
 use block_commands::{BlockRequest, CutRequest, carry_out_block};
 use head_replay::Options;
-use live_commands::{AppendRequest, carry_out_append};
+use live_commands::{AppendRequest, CheckpointRequest, carry_out_append, carry_out_checkpoint};
 use prom_commands::{Answer, Progress, carry_out};
 use prom_line::Asked;
 use prom_store::StoreFault;
@@ -94,6 +94,7 @@ pub fn carried_out<R: Threads + Wait + Sync + AllocGlobal, P: Progress + Sync>(
         Asked::OfLog(request) => carry_out(rt, alloc, shelf, progress, request),
         Asked::OfBlocks(request) => carry_out_block(rt, alloc, shelf, progress, request),
         Asked::Append(request) => carry_out_append(rt, alloc, shelf, progress, request),
+        Asked::Checkpoint(request) => carry_out_checkpoint(alloc, shelf, request),
     }
 }
 
@@ -134,6 +135,20 @@ pub const APPEND: Case = Case {
         dir: "log",
         rows: "rows",
         options: ANY,
+    }),
+    dir: "log",
+};
+
+/// A checkpoint is made of two segments. The first two of four samples are expired.
+pub const CHECKPOINT: Case = Case {
+    standing: &[
+        ("log/", b""),
+        ("log/00000000", THREE_SERIES),
+        ("log/00000001", SAMPLES_OF_THREE_SERIES),
+    ],
+    asked: Asked::Checkpoint(CheckpointRequest {
+        dir: "log",
+        min_valid: 3000,
     }),
     dir: "log",
 };
