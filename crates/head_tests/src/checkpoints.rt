@@ -116,6 +116,10 @@ fn whole(alloc: Global, case: &Case) -> Result<Input, AllocError> {
 }
 
 fn make(alloc: Global, case: &Case, input: &Input) -> Result<Checkpoint, CheckpointFault> {
+    // no case has other numbers of pages
+    if case.pages == 0 || case.pages > 4096 {
+        return Err(CheckpointFault::NoLog);
+    }
     make_checkpoint_within(alloc, input, case.min_valid, case.pages)
 }
 
