@@ -1,2 +1,4 @@
+pub mod Folders
+pub mod Less
 pub mod Told
 pub mod Unlimited

@@ -14,7 +14,7 @@ fn told(alloc: Global, parts: &Block) -> Result<Answer, Fault> {
 }
 
 /// Prints what the block in a folder holds.
-pub fn block<S: Store>(alloc: Global, store: &mut S, path: &str) -> Result<Answer, Fault> {
+pub fn block<S: Store>(alloc: Global, store: &S, path: &str) -> Result<Answer, Fault> {
     let parts = read_parts(alloc, store, path)?;
     told(alloc, &parts)
 }

@@ -1,10 +1,13 @@
 //! The commands about blocks.
 
+ghost use Rattle.std.specs.Prelude.{◌≡◌, IsOk};
+ghost use Rattle.block_commands.specs.Folders.{CarriesOut};
+
 use crate::blocks::block;
 use crate::cutting::cut_hour;
 use crate::ranges::ranges;
 use prom_commands::{Answer, Progress};
-use prom_store::{BlockRequest, Fault, Store};
+use prom_store::{BlockRequest, Fault, Status, Store};
 use std::alloc::Global;
 use std::sync::Wait;
 use std::thread::Threads;
@@ -15,7 +18,9 @@ fn execute<R: Threads + Wait + Sync, S: Store, P: Progress + Sync>(
     store: &mut S,
     progress: &P,
     request: BlockRequest<'_>,
-) -> Result<Answer, Fault> {
+) -> Result<Answer, Fault>
+    ensures crash { CarriesOut S.did store.old request.entry (IsOk result) store.new }
+{
     match request {
         BlockRequest::Ranges { dir, options } => ranges(rt, alloc, store, progress, dir, &options),
         BlockRequest::Cut(request) => cut_hour(rt, alloc, store, progress, request),
@@ -23,14 +28,17 @@ fn execute<R: Threads + Wait + Sync, S: Store, P: Progress + Sync>(
     }
 }
 
-/// Carries out a request about blocks. A block is made with one thread for each processor of `rt`.
+/// Carries out a request about blocks. A crash at any moment leaves the block whole or what stood before, and after status `Done` it is
+/// whole. A block is made with one thread for each processor of `rt`.
 pub fn carry_out_block<R: Threads + Wait + Sync, S: Store, P: Progress + Sync>(
     rt: &R,
     alloc: Global,
     store: &mut S,
     progress: &P,
     request: BlockRequest<'_>,
-) -> Answer {
+) -> Answer
+    ensures crash { CarriesOut S.did store.old request.entry (result.status ≡ Status.Done) store.new }
+{
     match execute(rt, alloc, store, progress, request) {
         Ok(answer) => answer,
         Err(fault) => Answer::failed(alloc, fault),

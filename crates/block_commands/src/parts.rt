@@ -2,20 +2,16 @@
 
 use block_read::Block;
 use hw_bytes::Items;
-use prom_commands::{join, names_in, read_in};
-use prom_store::{Fault, Store};
+use prom_commands::{names_in, read_in};
+use prom_files::six_digits;
+use prom_store::{Fault, Store, join};
 use std::alloc::{AllocError, Global};
-
-/// Returns the name of a chunk file. Files are counted from 1.
-pub fn chunk_name(alloc: Global, number: u64) -> Result<String, AllocError> {
-    format!(in alloc; "{number:06}")
-}
 
 // Returns whether this is the name of one of the first `most` chunk files.
 fn is_chunk_name(alloc: Global, name: &str, most: u64) -> Result<bool, AllocError> {
     match name.parse::<u64>() {
         Ok(number) if 1 <= number && number <= most => {
-            Ok(chunk_name(alloc, number)?.as_str() == name)
+            Ok(six_digits(alloc, number)?.as_str() == name)
         }
         _ => Ok(false),
     }
@@ -35,23 +31,19 @@ fn chunk_count(alloc: Global, names: &[String]) -> Result<Option<u64>, AllocErro
 
 // Reads the chunk files in a directory, or none if one of its names is no chunk file's: a block has a chunk, so such a folder is refused
 // for its chunks once its index was accepted.
-fn read_chunks<S: Store>(
-    alloc: Global,
-    store: &mut S,
-    dir: &str,
-) -> Result<Items<Items<u8>>, Fault> {
+fn read_chunks<S: Store>(alloc: Global, store: &S, dir: &str) -> Result<Items<Items<u8>>, Fault> {
     let names = names_in(alloc, store, dir)?;
     let count = chunk_count(alloc, &names)?.unwrap_or(0);
     let mut files = Vec::new(alloc);
     for number in 1..=count {
-        let name = chunk_name(alloc, number)?;
+        let name = six_digits(alloc, number)?;
         files.push(read_in(alloc, store, dir, &name)?)?;
     }
     Ok(Items::from_vec(files))
 }
 
 /// Reads the parts of the block in a folder. All parts are read before any is checked.
-pub fn read_parts<S: Store>(alloc: Global, store: &mut S, path: &str) -> Result<Block, Fault> {
+pub fn read_parts<S: Store>(alloc: Global, store: &S, path: &str) -> Result<Block, Fault> {
     let index = read_in(alloc, store, path, "index")?;
     let dir = join(alloc, path, "chunks")?;
     let chunks = read_chunks(alloc, store, &dir)?;

@@ -24,7 +24,7 @@ fn listed(alloc: Global, replayed: &Replayed) -> Result<Answer, Fault>
 pub fn ranges<R: Threads + Wait + Sync, S: Store, P: Progress + Sync>(
     rt: &R,
     alloc: Global,
-    store: &mut S,
+    store: &S,
     progress: &P,
     dir: &str,
     options: &Options,

@@ -20,7 +20,7 @@ pub fn same<C: Debug + Drop, T: PartialEq + Debug + Drop>(
 }
 
 /// The names in a directory, each behind a space.
-pub fn names<S: Store>(alloc: Global, store: &mut S, dir: &str) -> Result<String, StoreFault> {
+pub fn names<S: Store>(alloc: Global, store: &S, dir: &str) -> Result<String, StoreFault> {
     let mut text = String::new(alloc);
     for name in store.read_dir(dir)? {
         write!(text, " {name}")?;
@@ -31,7 +31,7 @@ pub fn names<S: Store>(alloc: Global, store: &mut S, dir: &str) -> Result<String
 /// Ends the test unless just these names are in a directory, each behind a space, in the order in which they were made.
 pub fn assert_names<R: Abort + AllocGlobal>(
     rt: &R,
-    shelf: &mut Shelf,
+    shelf: &Shelf,
     dir: &str,
     wanted: &str,
 ) -> Result<(), StoreFault> {

@@ -1,4 +1,4 @@
-//! What stands after a crash at each call of `append`, `cut` and `checkpoint`, and the order of their calls.
+//! What stands after a crash at each call of `append`, `cut` and `checkpoint`.
 
 use crate::checks::{ULID, names, same};
 use crate::fragments::*;
@@ -45,7 +45,7 @@ fn crashed<R: Threads + Wait + Sync + AllocGlobal>(
 }
 
 // The bytes of a file, none where it is not there.
-fn bytes_of(alloc: Global, shelf: &mut Shelf, path: &str) -> Vec<u8> {
+fn bytes_of(alloc: Global, shelf: &Shelf, path: &str) -> Vec<u8> {
     shelf.read(path).unwrap_or(Vec::new(alloc))
 }
 
@@ -74,7 +74,7 @@ fn assert_log<R: Abort + Threads + Wait + Sync + AllocGlobal>(
 ) -> Result<(), StoreFault> {
     let alloc = rt.alloc();
     let (mut shelf, is_done) = crashed(rt, &APPEND, crash)?;
-    let segment = bytes_of(alloc, &mut shelf, "log/00000001");
+    let segment = bytes_of(alloc, &shelf, "log/00000001");
     let is_whole = segment.as_slice() == SAMPLE_1_AT_1030;
     same(
         rt,
@@ -85,13 +85,13 @@ fn assert_log<R: Abort + Threads + Wait + Sync + AllocGlobal>(
     same(
         rt,
         crash,
-        bytes_of(alloc, &mut shelf, "log/00000000").as_slice(),
+        bytes_of(alloc, &shelf, "log/00000000").as_slice(),
         SERIES_1_JOB_API,
     );
     same(
         rt,
         crash,
-        bytes_of(alloc, &mut shelf, "rows").as_slice(),
+        bytes_of(alloc, &shelf, "rows").as_slice(),
         b"1030 8 job=api\n".as_slice(),
     );
     let wanted = counts(alloc, u64::from(is_whole))?;
@@ -125,7 +125,7 @@ fn assert_block<R: Abort + Threads + Wait + Sync + AllocGlobal>(
 ) -> Result<(), StoreFault> {
     let alloc = rt.alloc();
     let (mut shelf, is_done) = crashed(rt, &CUT, crash)?;
-    let is_there = names(alloc, &mut shelf, "out")?
+    let is_there = names(alloc, &shelf, "out")?
         .split(' ')
         .any(|name| name == ULID);
     same(rt, crash, is_there || !is_done, true);
@@ -172,7 +172,7 @@ fn assert_checkpoint<R: Abort + Threads + Wait + Sync + AllocGlobal>(
 ) -> Result<(), StoreFault> {
     let alloc = rt.alloc();
     let (mut shelf, is_done) = crashed(rt, &CHECKPOINT, crash)?;
-    let is_there = names(alloc, &mut shelf, "log")?
+    let is_there = names(alloc, &shelf, "log")?
         .split(' ')
         .any(|name| name == "checkpoint.00000001");
     same(rt, crash, is_there || !is_done, true);
@@ -193,95 +193,6 @@ fn crash_at_each_call_of_checkpoint(rt: HostRuntime) -> Result<(), StoreFault> {
     Ok(())
 }
 
-const CALLS_OF_APPEND: &str = "read_dir log
-read log/00000000
-read rows
-create_new log/00000001
-remove_file log/00000001.tmp
-create_new log/00000001.tmp
-write log/00000001.tmp 34
-sync_file log/00000001.tmp
-rename log/00000001.tmp log/00000001
-sync_dir log
-";
-
-// The lengths are those of the block in examples/block.
-const CALLS_OF_CUT: &str = "read_dir log
-read log/00000000
-read log/00000001
-read_dir out
-create_dir out/01ARZ3NDEKTSV4RRFFQ69G5FAV.tmp
-create_dir out/01ARZ3NDEKTSV4RRFFQ69G5FAV.tmp/chunks
-create_new out/01ARZ3NDEKTSV4RRFFQ69G5FAV.tmp/index
-write out/01ARZ3NDEKTSV4RRFFQ69G5FAV.tmp/index 242
-sync_file out/01ARZ3NDEKTSV4RRFFQ69G5FAV.tmp/index
-create_new out/01ARZ3NDEKTSV4RRFFQ69G5FAV.tmp/chunks/000001
-write out/01ARZ3NDEKTSV4RRFFQ69G5FAV.tmp/chunks/000001 54
-sync_file out/01ARZ3NDEKTSV4RRFFQ69G5FAV.tmp/chunks/000001
-create_new out/01ARZ3NDEKTSV4RRFFQ69G5FAV.tmp/tombstones
-write out/01ARZ3NDEKTSV4RRFFQ69G5FAV.tmp/tombstones 9
-sync_file out/01ARZ3NDEKTSV4RRFFQ69G5FAV.tmp/tombstones
-create_new out/01ARZ3NDEKTSV4RRFFQ69G5FAV.tmp/meta.json
-write out/01ARZ3NDEKTSV4RRFFQ69G5FAV.tmp/meta.json 249
-sync_file out/01ARZ3NDEKTSV4RRFFQ69G5FAV.tmp/meta.json
-sync_dir out/01ARZ3NDEKTSV4RRFFQ69G5FAV.tmp/chunks
-sync_dir out/01ARZ3NDEKTSV4RRFFQ69G5FAV.tmp
-rename out/01ARZ3NDEKTSV4RRFFQ69G5FAV.tmp out/01ARZ3NDEKTSV4RRFFQ69G5FAV
-sync_dir out
-";
-
-// The record of series takes 54 bytes, and that of two samples 47: a base of 16, the first with two deltas of a byte, the second with one
-// of a byte and one of four.
-const CALLS_OF_CHECKPOINT: &str = "read_dir log
-read log/00000000
-read log/00000001
-read_dir log
-create_dir log/checkpoint.00000001.tmp
-create_new log/checkpoint.00000001.tmp/00000000
-write log/checkpoint.00000001.tmp/00000000 101
-sync_file log/checkpoint.00000001.tmp/00000000
-sync_dir log/checkpoint.00000001.tmp
-rename log/checkpoint.00000001.tmp log/checkpoint.00000001
-sync_dir log
-";
-
-#[test]
-fn calls_in_order(rt: HostRuntime) -> Result<(), StoreFault> {
-    for (case, wanted) in [
-        (APPEND, CALLS_OF_APPEND),
-        (CUT, CALLS_OF_CUT),
-        (CHECKPOINT, CALLS_OF_CHECKPOINT),
-    ] {
-        let mut shelf = shelf_of(rt.alloc(), &case)?;
-        carried_out(&rt, &mut shelf, &NoGate, case.asked);
-        same(&rt, case.dir, shelf.notes()?.as_str(), wanted);
-    }
-    Ok(())
-}
-
-// A write takes so many bytes at most, and what stands is the same.
-#[test]
-fn short_writes(rt: HostRuntime) -> Result<(), StoreFault> {
-    let alloc = rt.alloc();
-    for most in [1, 7, 33] {
-        let mut shelf = shelf_of(alloc, &APPEND)?;
-        shelf.take_at_most(most)?;
-        carried_out(&rt, &mut shelf, &NoGate, APPEND.asked);
-        same(
-            &rt,
-            most,
-            bytes_of(alloc, &mut shelf, "log/00000001").as_slice(),
-            SAMPLE_1_AT_1030,
-        );
-        let mut shelf = shelf_of(alloc, &CUT)?;
-        shelf.take_at_most(most)?;
-        carried_out(&rt, &mut shelf, &NoGate, CUT.asked);
-        let found = carried_out(&rt, &mut shelf, &NoGate, READ);
-        same(&rt, most, found.printed.as_str(), READ_BACK);
-    }
-    Ok(())
-}
-
 // Another run claims the segment once the log is listed: it keeps it.
 #[test]
 fn segment_of_another_run(rt: HostRuntime) -> Result<(), StoreFault> {
@@ -296,10 +207,10 @@ fn segment_of_another_run(rt: HostRuntime) -> Result<(), StoreFault> {
         same(
             &rt,
             call,
-            names(alloc, &mut shelf, "log")?.as_str(),
+            names(alloc, &shelf, "log")?.as_str(),
             " 00000000 00000001",
         );
-        let found = bytes_of(alloc, &mut shelf, "log/00000001");
+        let found = bytes_of(alloc, &shelf, "log/00000001");
         same(&rt, call, found.as_slice(), b"of another run".as_slice());
     }
     Ok(())

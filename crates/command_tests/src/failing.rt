@@ -33,7 +33,7 @@ fn assert_run<R: Abort + Threads + Wait + Sync + AllocGlobal>(
     let calls = shelf.calls()?;
     // no call fails from here on
     shelf.fail(0, fault)?;
-    assert_names(rt, &mut shelf, case.dir, names)?;
+    assert_names(rt, &shelf, case.dir, names)?;
     Ok(calls)
 }
 

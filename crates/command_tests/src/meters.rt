@@ -198,8 +198,8 @@ fn goes_on_where_nothing_can_be_written(rt: HostRuntime) -> Result<(), StoreFaul
     shelf.put("log/00000000", SERIES_1_JOB_API)?;
     shelf.put("log/00000001", SAMPLES_1_AT_1000_1015)?;
     shelf.put("log/00000002", SAMPLES_1_AT_1000_1015)?;
-    let want = carry_out(&rt, alloc, &mut shelf, &NoGate, REPLAY_BY_PAGES);
-    let found = carry_out(&rt, alloc, &mut shelf, &meter, REPLAY_BY_PAGES);
+    let want = carry_out(&rt, alloc, &shelf, &NoGate, REPLAY_BY_PAGES);
+    let found = carry_out(&rt, alloc, &shelf, &meter, REPLAY_BY_PAGES);
     let (found, want) = (
         (found.status as u8, found.printed.as_str()),
         (want.status as u8, want.printed.as_str()),

@@ -8,7 +8,7 @@ use head_replay::Options;
 use live_commands::{AppendRequest, CheckpointRequest, carry_out_append, carry_out_checkpoint};
 use prom_commands::{Answer, Progress, carry_out};
 use prom_line::Asked;
-use prom_store::StoreFault;
+use prom_store::{Store, StoreFault};
 use std::alloc::{AllocError, Global};
 use std::sync::Wait;
 use std::thread::Threads;
@@ -83,18 +83,18 @@ pub fn replayed_by(asked: Asked<'_>, options: Options) -> Asked<'_> {
 }
 
 /// Carries out what is asked for.
-pub fn carried_out<R: Threads + Wait + Sync + AllocGlobal, P: Progress + Sync>(
+pub fn carried_out<R: Threads + Wait + Sync + AllocGlobal, S: Store, P: Progress + Sync>(
     rt: &R,
-    shelf: &mut Shelf,
+    store: &mut S,
     progress: &P,
     asked: Asked<'_>,
 ) -> Answer {
     let alloc = rt.alloc();
     match asked {
-        Asked::OfLog(request) => carry_out(rt, alloc, shelf, progress, request),
-        Asked::OfBlocks(request) => carry_out_block(rt, alloc, shelf, progress, request),
-        Asked::Append(request) => carry_out_append(rt, alloc, shelf, progress, request),
-        Asked::Checkpoint(request) => carry_out_checkpoint(alloc, shelf, request),
+        Asked::OfLog(request) => carry_out(rt, alloc, store, progress, request),
+        Asked::OfBlocks(request) => carry_out_block(rt, alloc, store, progress, request),
+        Asked::Append(request) => carry_out_append(rt, alloc, store, progress, request),
+        Asked::Checkpoint(request) => carry_out_checkpoint(alloc, store, request),
     }
 }
 

@@ -1,12 +1,11 @@
 //! A store in memory, for tests: calls can fail, and a crash keeps a part of what was not synced.
 
+ghost use Rattle.std.specs.Prelude.{⊤};
+
 use crate::tree::{Kept, Tree};
 use prom_store::{Store, StoreFault};
 use std::alloc::Global;
 use std::cell::{RefCell, RefMut};
-use std::io;
-use std::io::{ErrorKind, Write};
-use std::rc::Rc;
 
 // Which call fails, by its number, and how.
 #[derive(Clone, Copy)]
@@ -29,12 +28,8 @@ struct Arrival {
 struct Contents {
     tree: Tree,
     calls: u64,
-    // A line for each call.
-    notes: String,
     failure: Option<Failure>,
     arrival: Option<Arrival>,
-    // How many bytes a write takes at most.
-    most: usize,
 }
 
 // Puts a file there, and syncs it.
@@ -46,10 +41,9 @@ fn put_file(tree: &mut Tree, path: &str, bytes: &[u8]) -> Result<(), StoreFault>
 }
 
 impl Contents {
-    // Notes a call, and fails if it is one that is to fail.
-    fn count_call(&mut self, note: &str) -> Result<(), StoreFault> {
+    // Counts a call, and fails if it is one that is to fail.
+    fn count_call(&mut self) -> Result<(), StoreFault> {
         self.calls = self.calls.saturating_add(1);
-        writeln!(self.notes, "{note}")?;
         if let Some(arrival) = self.arrival
             && arrival.call == self.calls
         {
@@ -67,26 +61,22 @@ fn open(contents: &RefCell<Contents>) -> Result<RefMut<'_, Contents>, StoreFault
     contents.try_borrow_mut().map_err(|_| StoreFault::Refused)
 }
 
-// Opens the contents for a call, which is noted.
-fn call<'a>(
-    contents: &'a RefCell<Contents>,
-    note: &str,
-) -> Result<RefMut<'a, Contents>, StoreFault> {
+// Opens the contents for a call, which is counted.
+fn call(contents: &RefCell<Contents>) -> Result<RefMut<'_, Contents>, StoreFault> {
     let mut contents = open(contents)?;
-    contents.count_call(note)?;
+    contents.count_call()?;
     Ok(contents)
 }
 
-/// Directories and files in memory. Each call of the store and each `write` of a writer counts as a call.
+/// Directories and files in memory. Each call of the store is counted.
 pub struct Shelf {
-    alloc: Global,
-    contents: Rc<RefCell<Contents>>,
+    contents: RefCell<Contents>,
 }
 
 // Written out, so that a function which holds a shelf is proved with one call where it lets go of it.
 impl Drop for Shelf {
     fn drop(self) {
-        let Shelf { alloc: _, contents } = self;
+        let Shelf { contents } = self;
         drop(contents);
     }
 }
@@ -96,14 +86,11 @@ impl Shelf {
         let contents = Contents {
             tree: Tree::new(alloc)?,
             calls: 0,
-            notes: String::new(alloc),
             failure: None,
             arrival: None,
-            most: usize::MAX,
         };
         Ok(Shelf {
-            alloc,
-            contents: Rc::new(alloc, RefCell::new(contents))?,
+            contents: RefCell::new(contents),
         })
     }
 
@@ -151,12 +138,6 @@ impl Shelf {
         Ok(())
     }
 
-    /// Has a write take so many bytes at most.
-    pub fn take_at_most(&mut self, most: usize) -> Result<(), StoreFault> {
-        open(&self.contents)?.most = most;
-        Ok(())
-    }
-
     /// Drops what was not synced but for so much of it, of names and of bytes. No call fails from here on.
     pub fn crash(&mut self, names: Kept, bytes: Kept) -> Result<(), StoreFault> {
         let mut contents = open(&self.contents)?;
@@ -169,93 +150,60 @@ impl Shelf {
     pub fn calls(&self) -> Result<u64, StoreFault> {
         Ok(open(&self.contents)?.calls)
     }
-
-    /// The calls, a line each.
-    pub fn notes(&self) -> Result<String, StoreFault> {
-        Ok(String::from_str(self.alloc, &open(&self.contents)?.notes)?)
-    }
 }
 
 /// A file that was created on a shelf.
 #[derive(Drop)]
 pub struct ShelfWriter {
-    alloc: Global,
-    path: String,
     file: usize,
-    contents: Rc<RefCell<Contents>>,
-}
-
-impl ShelfWriter {
-    // Writes as many of these bytes as are taken, and gives how many.
-    fn append(&mut self, bytes: &[u8]) -> Result<usize, StoreFault> {
-        let note = format!(in self.alloc; "write {} {}", self.path, bytes.len())?;
-        let mut contents = call(&self.contents, &note)?;
-        let taken = bytes.get(..contents.most).unwrap_or(bytes);
-        contents.tree.append(self.file, taken)?;
-        Ok(taken.len())
-    }
-}
-
-impl Write for ShelfWriter {
-    fn write(&mut self, buf: &[u8]) -> io::Result<usize> {
-        match self.append(buf) {
-            Ok(taken) => Ok(taken.min(buf.len())),
-            Err(StoreFault::Refused) => Err(io::Error::from(ErrorKind::Other)),
-            Err(StoreFault::OutOfMemory) => Err(io::Error::from(ErrorKind::OutOfMemory)),
-        }
-    }
-
-    fn flush(&mut self) -> io::Result<()> {
-        Ok(())
-    }
 }
 
 impl Store for Shelf {
     type Writer = ShelfWriter;
 
-    fn read_dir(&mut self, path: &str) -> Result<Vec<String>, StoreFault> {
-        let note = format!(in self.alloc; "read_dir {path}")?;
-        call(&self.contents, &note)?.tree.names(path)
+    // what it holds is in a cell
+    ghost did = { λ _ _ _. ⊤ };
+
+    ghost is_of = { λ _ _. ⊤ };
+
+    ghost did_nothing = { λ _. tt };
+
+    ghost did_both = { λ _ _ _ _ _ _ _. tt };
+
+    fn read_dir(&self, path: &str) -> Result<Vec<String>, StoreFault> {
+        call(&self.contents)?.tree.names(path)
     }
 
-    fn read(&mut self, path: &str) -> Result<Vec<u8>, StoreFault> {
-        let note = format!(in self.alloc; "read {path}")?;
-        call(&self.contents, &note)?.tree.read(path)
+    fn read(&self, path: &str) -> Result<Vec<u8>, StoreFault> {
+        call(&self.contents)?.tree.read(path)
     }
 
     fn create_new(&mut self, path: &str) -> Result<ShelfWriter, StoreFault> {
-        let note = format!(in self.alloc; "create_new {path}")?;
-        let file = call(&self.contents, &note)?.tree.create_file(path)?;
-        Ok(ShelfWriter {
-            alloc: self.alloc,
-            path: String::from_str(self.alloc, path)?,
-            file,
-            contents: self.contents.clone()?,
-        })
+        let file = call(&self.contents)?.tree.create_file(path)?;
+        Ok(ShelfWriter { file })
+    }
+
+    fn write(&mut self, writer: &mut ShelfWriter, bytes: &[u8]) -> Result<(), StoreFault> {
+        call(&self.contents)?.tree.append(writer.file, bytes)
     }
 
     fn sync_file(&mut self, writer: &mut ShelfWriter) -> Result<(), StoreFault> {
-        let note = format!(in self.alloc; "sync_file {}", writer.path)?;
-        call(&self.contents, &note)?.tree.sync_file(writer.file)
+        call(&self.contents)?.tree.sync_file(writer.file)
     }
 
     fn sync_dir(&mut self, path: &str) -> Result<(), StoreFault> {
-        let note = format!(in self.alloc; "sync_dir {path}")?;
-        call(&self.contents, &note)?.tree.sync_dir(path)
+        call(&self.contents)?.tree.sync_dir(path)
     }
 
     fn create_dir(&mut self, path: &str) -> Result<(), StoreFault> {
-        let note = format!(in self.alloc; "create_dir {path}")?;
-        call(&self.contents, &note)?.tree.create_dir(path)
+        call(&self.contents)?.tree.create_dir(path)
     }
 
     fn rename(&mut self, from: &str, to: &str) -> Result<(), StoreFault> {
-        let note = format!(in self.alloc; "rename {from} {to}")?;
-        call(&self.contents, &note)?.tree.rename(from, to)
+        call(&self.contents)?.tree.rename(from, to)
     }
 
     fn remove_file(&mut self, path: &str) -> Result<(), StoreFault> {
-        let note = format!(in self.alloc; "remove_file {path}")?;
-        call(&self.contents, &note)?.tree.remove_file(path)
+        call(&self.contents)?.tree.remove_file(path)
     }
 }

@@ -4,7 +4,7 @@ use crate::checks::{names, same};
 use crate::shelf::Shelf;
 use prom_store::{Disk, Store, StoreFault, names_of, read_whole};
 use std::alloc::Global;
-use std::io::{ErrorKind, Read, Write};
+use std::io::{ErrorKind, Read};
 use std::process::Abort;
 use std::test::Fail;
 use std::{env, fs, io, process};
@@ -26,7 +26,7 @@ enum Call {
 }
 
 // The bytes of a file, as letters.
-fn letters<S: Store>(alloc: Global, store: &mut S, path: &str) -> Result<String, StoreFault> {
+fn letters<S: Store>(alloc: Global, store: &S, path: &str) -> Result<String, StoreFault> {
     let mut text = String::new(alloc);
     for byte in store.read(path)? {
         text.push(char::from(byte))?;
@@ -36,7 +36,8 @@ fn letters<S: Store>(alloc: Global, store: &mut S, path: &str) -> Result<String,
 
 fn create<S: Store>(store: &mut S, path: &str) -> Result<(), StoreFault> {
     let mut writer = store.create_new(path)?;
-    writer.write_all(b"bytes")?;
+    store.write(&mut writer, b"by")?;
+    store.write(&mut writer, b"tes")?;
     store.sync_file(&mut writer)
 }
 
@@ -132,9 +133,9 @@ fn store_of_real_files(rt: HostRuntime) -> Result<(), Fail> {
 fn written(alloc: Global, shelf: &mut Shelf) -> Result<String, StoreFault> {
     let mut writer = shelf.create_new("new")?;
     shelf.fail(3, StoreFault::Refused)?;
-    writer.write_all(b"one ")?;
-    let _ = writer.write_all(b"two ");
-    writer.write_all(b"three")?;
+    shelf.write(&mut writer, b"one ")?;
+    let _ = shelf.write(&mut writer, b"two ");
+    shelf.write(&mut writer, b"three")?;
     letters(alloc, shelf, "new")
 }
 

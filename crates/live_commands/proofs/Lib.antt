@@ -1,1 +1,4 @@
+pub mod Folders
+pub mod Less
+pub mod Numbers
 pub mod SegmentLemmas

@@ -1,6 +1,6 @@
 //! The store over real files.
 
-ghost use Rattle.std.specs.Prelude.{◌≡◌, ◌⊎◌, Ok, Err, IfErr, IfOk, IfSome, IsErr, MatchResult, map, string_bytes};
+ghost use Rattle.std.specs.Prelude.{◌≡◌, ◌⊎◌, Ok, Err, IfErr, IfOk, IfSome, IsErr, MatchResult, ⊤, map, string_bytes};
 ghost use Rattle.std.specs.Iterator.{Drains, IsFinite};
 ghost use Rattle.std.specs.Fs.{dir_entry_name};
 ghost use Rattle.prom_store.specs.Entries.{Gives};
@@ -8,7 +8,7 @@ ghost use Rattle.prom_store.specs.Entries.{Gives};
 use crate::store::{Store, StoreFault};
 use std::alloc::Global;
 use std::fs::{DirEntry, File, OpenFile};
-use std::io::{ErrorKind, Read};
+use std::io::{ErrorKind, Read, Write};
 use std::rt::Files;
 use std::{fs, io};
 
@@ -103,13 +103,22 @@ pub fn names_of<I: Iterator<Item = Result<String, StoreFault>> + Drop>(
 impl<R: Files + AllocGlobal + Clone + Drop> Store for Disk<'_, R> {
     type Writer = R::File;
 
-    fn read_dir(&mut self, path: &str) -> Result<Vec<String>, StoreFault> {
+    // no contract says what a file of the system holds
+    ghost did = { λ _ _ _. ⊤ };
+
+    ghost is_of = { λ _ _. ⊤ };
+
+    ghost did_nothing = { λ _. tt };
+
+    ghost did_both = { λ _ _ _ _ _ _ _. tt };
+
+    fn read_dir(&self, path: &str) -> Result<Vec<String>, StoreFault> {
         let alloc = self.rt.alloc();
         let entries = fs::read_dir(self.rt, path)?;
         names_of(alloc, entries.map(|entry| name_of(alloc, entry)))
     }
 
-    fn read(&mut self, path: &str) -> Result<Vec<u8>, StoreFault> {
+    fn read(&self, path: &str) -> Result<Vec<u8>, StoreFault> {
         let mut file = File::open(self.rt, path)?;
         let length = length_of(&file);
         read_whole(self.rt.alloc(), &mut file, length)
@@ -117,6 +126,10 @@ impl<R: Files + AllocGlobal + Clone + Drop> Store for Disk<'_, R> {
 
     fn create_new(&mut self, path: &str) -> Result<R::File, StoreFault> {
         Ok(File::create_new(self.rt, path)?)
+    }
+
+    fn write(&mut self, writer: &mut R::File, bytes: &[u8]) -> Result<(), StoreFault> {
+        Ok(writer.write_all(bytes)?)
     }
 
     fn sync_file(&mut self, writer: &mut R::File) -> Result<(), StoreFault> {

@@ -5,6 +5,7 @@ mod damage;
 mod disk;
 mod fault;
 mod line;
+mod paths;
 mod requests;
 mod store;
 
@@ -12,5 +13,6 @@ pub use damage::{DamageLine, kind_of_file};
 pub use disk::{Disk, names_of, read_whole};
 pub use fault::{Fault, Status};
 pub use line::LineFault;
+pub use paths::join;
 pub use requests::{AppendRequest, BlockRequest, CheckpointRequest, CutRequest, Request};
 pub use store::{Store, StoreFault};

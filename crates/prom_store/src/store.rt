@@ -1,13 +1,14 @@
 //! What the program asks of a file system.
 
-ghost use Rattle.std.specs.Prelude.{◌≡◌, ◌↔◌};
+ghost use Rattle.std.specs.Prelude.{◌≡◌, ◌↔◌, ℕ, List, [], ◌++◌, IfOk};
 ghost use Rattle.std.specs.IoError.{error_kind};
 ghost use Rattle.std.specs.declared.io.ErrorKind.TheVariants as kind;
+ghost use Rattle.prom_store.specs.Calls.{Call, Called, Create, CreateDir, Remove, Rename, SyncDir, SyncFile, Write};
 ghost use Rattle.prom_store.specs.declared.store.StoreFault.TheVariants.{OutOfMemory};
 
 use std::alloc::{AllocError, AllocFailed};
 use std::io;
-use std::io::{ErrorKind, Write};
+use std::io::ErrorKind;
 
 /// Why a call of a store failed.
 #[derive(Clone, Copy, Debug, PartialEq, Eq)]
@@ -44,31 +45,56 @@ impl<T: Drop> From<AllocFailed<T>> for StoreFault {
     }
 }
 
-/// Directories and files. Its calls have the names of `std::fs`.
+/// Directories and files. Its calls have the names of `std::fs`. What a call that changes them did is told by `did`, a relation between two
+/// states of the store: a store over real files knows nothing of it, and code over any store claims only calls that it made.
 pub trait Store {
     /// A file that was created. It is closed when it is dropped.
-    type Writer: Write + Drop;
+    type Writer: Drop;
+
+    /// From the first state to the second these calls took effect, in this order, and no others.
+    ghost did: { Self → List Call → Self → Type 0 };
+
+    /// The writer writes to the file that was created at this path.
+    ghost is_of: { Self.Writer → List ℕ → Type 0 };
 
     /// Returns the names in a directory, in any order. Returns an error if one of them is not UTF-8.
-    fn read_dir(&mut self, path: &str) -> Result<Vec<String>, StoreFault>;
+    fn read_dir(&self, path: &str) -> Result<Vec<String>, StoreFault>;
 
     /// Reads all bytes of a file.
-    fn read(&mut self, path: &str) -> Result<Vec<u8>, StoreFault>;
+    fn read(&self, path: &str) -> Result<Vec<u8>, StoreFault>;
 
     /// Creates a file. Returns an error if the path exists.
-    fn create_new(&mut self, path: &str) -> Result<Self::Writer, StoreFault>;
+    fn create_new(&mut self, path: &str) -> Result<Self::Writer, StoreFault>
+        ensures call { Called did self.old (Create path.now) result self.new }
+        ensures writer { IfOk result (λ writer. is_of writer path.now) };
+
+    /// Writes bytes to the end of a new file.
+    fn write(&mut self, writer: &mut Self::Writer, bytes: &[u8]) -> Result<(), StoreFault>
+        ensures call { (path : List ℕ) → is_of writer.old path → Called did self.old (Write path bytes.now) result self.new }
+        ensures writer { (path : List ℕ) → is_of writer.old path → is_of writer.new path };
 
     /// Syncs a new file: what was written to it outlasts a crash.
-    fn sync_file(&mut self, writer: &mut Self::Writer) -> Result<(), StoreFault>;
+    fn sync_file(&mut self, writer: &mut Self::Writer) -> Result<(), StoreFault>
+        ensures call { (path : List ℕ) → is_of writer.old path → Called did self.old (SyncFile path) result self.new };
 
     /// Syncs a directory: its names outlast a crash.
-    fn sync_dir(&mut self, path: &str) -> Result<(), StoreFault>;
+    fn sync_dir(&mut self, path: &str) -> Result<(), StoreFault>
+        ensures { Called did self.old (SyncDir path.now) result self.new };
 
     /// Creates a directory. Returns an error if the path exists.
-    fn create_dir(&mut self, path: &str) -> Result<(), StoreFault>;
+    fn create_dir(&mut self, path: &str) -> Result<(), StoreFault>
+        ensures { Called did self.old (CreateDir path.now) result self.new };
 
     /// Renames a file, or a directory with its contents. A file replaces the file at `to`; a directory needs a path that does not exist.
-    fn rename(&mut self, from: &str, to: &str) -> Result<(), StoreFault>;
+    fn rename(&mut self, from: &str, to: &str) -> Result<(), StoreFault>
+        ensures { Called did self.old (Rename from.now to.now) result self.new };
 
-    fn remove_file(&mut self, path: &str) -> Result<(), StoreFault>;
+    fn remove_file(&mut self, path: &str) -> Result<(), StoreFault>
+        ensures { Called did self.old (Remove path.now) result self.new };
+
+    /// From a state to itself no call took effect.
+    ghost did_nothing: { (state : Self) → did state [] state };
+
+    /// What was done up to a state and what was done from there on was done in that order.
+    ghost did_both: { (old middle new : Self) (first second : List Call) → did old first middle → did middle second new → did old (first ++ second) new };
 }

@@ -1,0 +1,19 @@
+use Rattle.std.proofs.Common.{◌∙◌, ap, map}
+use Rattle.std.specs.Prelude.{codes}
+use Rattle.std.specs.Path.{path_join}
+use Rattle.prom_files.specs.Folders.{file_at}
+use Rattle.block_commands.specs.Folders.{block_files}
+use Rattle.block_commands.proofs.Folders.{block_inside, ulid_is_name}
+use Rattle.block_commands.proofs.writing.write_block.Goals as goal
+
+pub new-requires : goal.new-requires
+new-requires g c = ulid_is_name c.args.name.now (record { long = c.requires.long; digits = c.requires.digits; low = c.requires.low })
+
+pub write_new_folder-requires : goal.write_new_folder-requires
+write_new_folder-requires g c =
+    let folder = c.in_ok-target.target.unfinished in
+    let block = c.args.block.now in
+    record {
+      inside = block_inside folder _ block _ (c.in_ok-chunks.ensures ∙ ap (λ f. path_join f (codes "chunks")) c.unfinished.ensures.path)
+          (ap (map file_at) c.deref-2.ensures.value ∙ c.in_ok-files.ensures ∙ ap (λ f. block_files f c.deref.result.now block) c.unfinished-2.ensures.path ∙ ap (λ d. block_files folder d block) c.deref.ensures);
+    }

@@ -1,0 +1,63 @@
+-- The folder of a block, and what a crash leaves where it is written.
+use Rattle.std.specs.Prelude.{◌≡◌, ◌⊎◌, ℕ, ◌+◌, List, [], ◌∷◌, ◌++◌, Option, codes}
+use Rattle.std.specs.Path.{path_join}
+use Rattle.prom_store.specs.Calls.{Call}
+use Rattle.prom_store.specs.declared.requests.BlockRequest.{BlockRequest}
+use Rattle.prom_store.specs.declared.requests.BlockRequest.TheVariants as asked
+use Rattle.prom_store.specs.declared.requests.CutRequest.{CutRequest}
+use Rattle.wal_log.specs.Inputs.{Files}
+use Rattle.block_cut.specs.Logs.{IsBlockOfLog}
+use Rattle.block_read.specs.declared.block.Block.{Block}
+use Rattle.block_text.specs.Sums.{Text}
+use Rattle.prom_files.specs.Crashes.{IsCrashSafe}
+use Rattle.prom_files.specs.Disk.{File, Standing}
+use Rattle.prom_files.specs.Folders.{FileAt, LeavesFolder, LeavesOldOrFolder}
+use Rattle.prom_files.specs.Targets.{unfinished_of, zero_filled}
+
+-- the file of this name in a directory
+abbrev pub named : List ℕ → List ℕ → List ℕ → FileAt
+named dir name bytes = record { path = path_join dir name; bytes = bytes }
+
+-- chunk files in a directory, numbered from n on
+abbrev pub chunk_paths : List ℕ → ℕ → List Text → List FileAt
+chunk_paths dir n [] = []
+chunk_paths dir n (chunk ∷ chunks) = named dir (zero_filled 6 n) chunk ∷ chunk_paths dir (n + 1) chunks
+
+-- the files of a block in a folder, those of chunks in the directory `dir`
+abbrev pub block_files : List ℕ → List ℕ → Block → List FileAt
+block_files folder dir block =
+    named folder (codes "index") block.index ∷ chunk_paths dir 1 block.chunks ++ named folder (codes "tombstones") block.tombstones ∷ named folder (codes "meta.json") block.meta ∷ []
+
+-- the directory of chunk files in a folder
+abbrev pub chunks_in : List ℕ → List ℕ
+chunks_in folder = path_join folder (codes "chunks")
+
+-- At the block's path stands what stood there, or a folder with its files; and all else as before, but for the unfinished folder.
+abbrev pub LeavesOldOrBlock : List ℕ → List ℕ → Block → Standing → (List ℕ → Option File) → Standing → Type 0
+LeavesOldOrBlock out name block =
+    let path = path_join out name in
+    let folder = unfinished_of path in
+    LeavesOldOrFolder path folder (chunks_in folder ∷ []) (block_files folder (chunks_in folder) block)
+
+-- At the block's path stands a folder with its files.
+abbrev pub LeavesBlock : List ℕ → List ℕ → Block → Standing → (List ℕ → Option File) → Standing → Type 0
+LeavesBlock out name block =
+    let path = path_join out name in
+    let folder = unfinished_of path in
+    LeavesFolder path folder (chunks_in folder ∷ []) (block_files folder (chunks_in folder) block)
+
+-- A block was written, or the call failed before.
+abbrev pub WritesBlock : {S : Type 0} → (S → List Call → S → Type 0) → S → List ℕ → List ℕ → Block → Type 0 → S → Type 0
+WritesBlock did old out name block WentWell new = ((new ≡ old) × (WentWell → ⊥)) ⊎ IsCrashSafe did old (LeavesOldOrBlock out name block) (LeavesBlock out name block) WentWell new
+
+-- The block of a log was written, or the call failed before.
+abbrev pub Cuts : {S : Type 0} → (S → List Call → S → Type 0) → S → CutRequest → Type 0 → S → Type 0
+Cuts did old request WentWell new =
+    ((new ≡ old) × (WentWell → ⊥))
+    ⊎ ((log : Files) × (block : Block) × IsBlockOfLog log request.options.min_valid request.hour request.ulid.now block × WritesBlock did old request.out.now request.ulid.now block WentWell new)
+
+-- A request to cut writes a block. The other requests change nothing.
+abbrev pub CarriesOut : {S : Type 0} → (S → List Call → S → Type 0) → S → BlockRequest → Type 0 → S → Type 0
+CarriesOut did old (asked.Cut request) WentWell new = Cuts did old request WentWell new
+CarriesOut did old (asked.Ranges dir options) WentWell new = new ≡ old
+CarriesOut did old (asked.Block path) WentWell new = new ≡ old

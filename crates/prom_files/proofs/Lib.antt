@@ -1,0 +1,10 @@
+pub mod Digits
+pub mod Disks
+pub mod Exchanged
+pub mod FileCrash
+pub mod FolderCrash
+pub mod GivenUp
+pub mod Orders
+pub mod Paths
+pub mod Runs
+pub mod Safety

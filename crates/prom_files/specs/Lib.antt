@@ -1,0 +1,6 @@
+pub mod Crashes
+pub mod Disk
+pub mod Files
+pub mod Folders
+pub mod Orders
+pub mod Targets
