@@ -2,7 +2,7 @@
 use Rattle.std.specs.Prelude.{ℕ, zero, suc, ◌≡◌, ◌+◌, ◌-◌, ◌^◌, ◌<◌, ◌≤◌, ◌/◌, ◌%◌, ◌&&◌, ◌==◌, nat_lt, if◌then◌else◌, Bool, true, false, not, T, List, [], ◌∷◌, ◌++◌, length, replicate, refl}
 use Rattle.std.specs.Fmt.{decimal, digit_glyph, digits, digits_onto, format_spec, styled_decimal}
 use Rattle.std.specs.Path.{HasNoSlash, has_no_slash, slash}
-use Rattle.std.proofs.Common.{ap, sym, ◌∙◌, arith}
+use Rattle.std.proofs.Common.{sym, arith}
 use Rattle.std.proofs.lemmas.List.{length-append}
 use Rattle.std.proofs.lemmas.Bool.{lt-ltb, ne_eqb, true≢false}
 use Rattle.std.proofs.Padding.{padded_integral_zeros}

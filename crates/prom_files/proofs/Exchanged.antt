@@ -5,7 +5,7 @@ use Rattle.std.proofs.lemmas.Bool.{false≢true, true≢false, cases_Bool}
 use Rattle.std.proofs.lemmas.Slice.Eq.{bytes_eq-Decides}
 use Rattle.prom_store.specs.Calls.{Call, Create, Write, Rename}
 use Rattle.prom_files.specs.Crashes.{AfterCrash}
-use Rattle.prom_files.specs.Disk.{CanTakeAll, Content, File, IsAmong, MayLeave, MayRead, New, after_all, changed, disk_of, given, latest, led}
+use Rattle.prom_files.specs.Disk.{CanTakeAll, Content, File, IsAmong, MayRead, New, after_all, changed, disk_of, given, latest, led}
 use Rattle.prom_files.specs.Files.{LeavesOldOrFile}
 use Rattle.prom_files.proofs.Disks.{changed_here, given_here, led_elsewhere, led_here}
 
@@ -67,8 +67,8 @@ module _ (path unfinished bytes : List ℕ) (differ : path ≢ unfinished) where
   not_synced = let made = given (given (disk_of no_files).content path (record { bytes = []; synced = true })) unfinished (record { bytes = []; synced = true }) in
       ap (λ c. c.synced) (given_here made unfinished (record { bytes = (made (New unfinished)).bytes ++ bytes; synced = false }))
 
-  at_segment : (file : Option File) × IsAmong (led moved unfinished None path) file × MayRead content file (left path)
-  at_segment = (
+  at_the_path : (file : Option File) × IsAmong (led moved unfinished None path) file × MayRead content file (left path)
+  at_the_path = (
     Some (New unfinished),
     subst (λ files. IsAmong files (Some (New unfinished))) (sym (led_elsewhere moved unfinished path None (λ is. differ (sym is)) ∙ leads)) (inl refl),
     (1 ∷ bytes, changed_here no_files path (Some (1 ∷ bytes)), (λ synced. absurd (false≢true (sym not_synced ∙ synced)))),
@@ -88,7 +88,7 @@ module _ (path unfinished bytes : List ℕ) (differ : path ≢ unfinished) where
   same_or_not a b (inr is) = inr (λ same. true≢false (sym ((bytes_eq-Decides a b).1 same) ∙ is))
 
   at_path : (other : List ℕ) → (bytes_eq path other ≡ true) ⊎ (bytes_eq path other ≡ false) → (file : Option File) × IsAmong (led moved unfinished None other) file × MayRead content file (left other)
-  at_path other (inl is) = subst (λ o. (file : Option File) × IsAmong (led moved unfinished None o) file × MayRead content file (left o)) ((bytes_eq-Decides path other).0 is) at_segment
+  at_path other (inl is) = subst (λ o. (file : Option File) × IsAmong (led moved unfinished None o) file × MayRead content file (left o)) ((bytes_eq-Decides path other).0 is) at_the_path
   at_path other (inr is) = (None, names_none other (λ same. true≢false (sym ((bytes_eq-Decides path other).1 same) ∙ is)) (same_or_not unfinished other (cases_Bool (bytes_eq unfinished other))), absent other is)
 
   abbrev here : (other : List ℕ) → (file : Option File) × IsAmong (led moved unfinished None other) file × MayRead content file (left other)

@@ -1,16 +1,16 @@
 -- What a crash leaves of a new folder.
 use Rattle.std.specs.Prelude.{ℕ, ◌≡◌, ◌≢◌, ◌⊎◌, ◌<◌, ◌≤◌, ◌||◌, Bool, true, false, if◌then◌else◌, List, [], ◌∷◌, ◌++◌, length, map, Option, Some, None, refl, Result, Ok, Err, IsOk}
-use Rattle.std.specs.Option.{option_map, unwrap_or}
-use Rattle.std.specs.List.{AllByRecursion, flat_map, list_any}
+use Rattle.std.specs.Option.{option_map}
+use Rattle.std.specs.List.{AllByRecursion}
 use Rattle.std.proofs.Common.{inl, inr, ap, subst, sym, ◌∙◌, arith}
 use Rattle.std.proofs.lemmas.Bool.{false≢true, true≢false, cases_Bool}
-use Rattle.prom_store.specs.Calls.{Call, Create, CreateDir, Rename, SyncDir, SyncFile, Write}
-use Rattle.prom_files.specs.Crashes.{AfterCrash, IsCrashSafe}
-use Rattle.prom_files.specs.Disk.{AreLeft, CanTake, CanTakeAll, Content, Disk, File, IsAmong, MayLeave, MayRead, New, Old, Standing, after, after_all, disk_of, given, is_in, latest, led, no_bytes}
+use Rattle.prom_store.specs.Calls.{Call, CreateDir, Rename, SyncDir}
+use Rattle.prom_files.specs.Crashes.{IsCrashSafe}
+use Rattle.prom_files.specs.Disk.{CanTake, CanTakeAll, Disk, File, IsAmong, MayLeave, MayRead, New, Old, Standing, after, after_all, disk_of, given, is_in, latest, led, no_bytes}
 use Rattle.prom_files.specs.Files.{file_calls}
 use Rattle.prom_files.specs.Folders.{AreInside, FileAt, IsWholeFolder, LeavesFolder, LeavesOldOrFolder, create_dirs, files_calls, is_inside, new_folder, sync_dirs, unfinished_folder}
 use Rattle.prom_files.specs.Orders.{AreAll, AreFirst, Follows, IsRemoval}
-use Rattle.prom_files.proofs.Disks.{Keeps, after_both, all_then, all_weaker, among_has, can_take_both, first_keep, given_elsewhere, given_here, latest_synced, led_elsewhere, led_here, olds_kept, read_among, read_old, read_synced, run_keep, synced_has, synced_one, whole}
+use Rattle.prom_files.proofs.Disks.{Keeps, after_both, all_then, all_weaker, among_has, can_take_both, first_keep, given_elsewhere, given_here, latest_synced, led_elsewhere, led_here, olds_kept, read_among, read_old, read_synced, run_keep, synced_one, whole}
 use Rattle.prom_files.proofs.Orders.{AreBehind, exactly, first_apart, first_of_all, first_of_first}
 use Rattle.prom_files.proofs.Paths.{in_longer, inside_longer, longer_differs}
 
@@ -106,14 +106,14 @@ settled_past_syncs (dir ∷ dirs) disk path bytes is = settled_past_syncs dirs (
 settled_by_sync : (disk : Disk) (dir path bytes : List ℕ) → is_in dir path ≡ true → IsMade path bytes disk → IsSettled path bytes (after disk (SyncDir dir))
 settled_by_sync disk dir path bytes inside is = record { leads = ap (λ b. if b then latest (disk.names path) ∷ [] else disk.names path) inside ∙ ap (λ f. f ∷ []) is.leads; synced = is.synced }
 
-mutual_syncs : (dir : List ℕ) (dirs : List (List ℕ)) (disk : Disk) (path bytes : List ℕ) → (is_in dir path ≡ true) ⊎ (is_in dir path ≡ false) → is_inside (dir ∷ dirs) path ≡ true → IsMade path bytes disk
+settled_by_first : (dir : List ℕ) (dirs : List (List ℕ)) (disk : Disk) (path bytes : List ℕ) → (is_in dir path ≡ true) ⊎ (is_in dir path ≡ false) → is_inside (dir ∷ dirs) path ≡ true → IsMade path bytes disk
     → ((other : Disk) → is_inside dirs path ≡ true → IsMade path bytes other → IsSettled path bytes (after_all other (sync_dirs dirs))) → IsSettled path bytes (after_all disk (sync_dirs (dir ∷ dirs)))
-mutual_syncs dir dirs disk path bytes (inl here) inside is later = settled_past_syncs dirs (after disk (SyncDir dir)) path bytes (settled_by_sync disk dir path bytes here is)
-mutual_syncs dir dirs disk path bytes (inr not_here) inside is later = later (after disk (SyncDir dir)) (sym (ap (λ b. b || is_inside dirs path) not_here) ∙ inside) (made_past_sync disk dir path bytes is)
+settled_by_first dir dirs disk path bytes (inl here) inside is later = settled_past_syncs dirs (after disk (SyncDir dir)) path bytes (settled_by_sync disk dir path bytes here is)
+settled_by_first dir dirs disk path bytes (inr not_here) inside is later = later (after disk (SyncDir dir)) (sym (ap (λ b. b || is_inside dirs path) not_here) ∙ inside) (made_past_sync disk dir path bytes is)
 
 settled_by_syncs : (dirs : List (List ℕ)) (disk : Disk) (path bytes : List ℕ) → is_inside dirs path ≡ true → IsMade path bytes disk → IsSettled path bytes (after_all disk (sync_dirs dirs))
 settled_by_syncs [] disk path bytes inside is = absurd (false≢true inside)
-settled_by_syncs (dir ∷ dirs) disk path bytes inside is = mutual_syncs dir dirs disk path bytes (cases_Bool (is_in dir path)) inside is (λ other. settled_by_syncs dirs other path bytes)
+settled_by_syncs (dir ∷ dirs) disk path bytes inside is = settled_by_first dir dirs disk path bytes (cases_Bool (is_in dir path)) inside is (λ other. settled_by_syncs dirs other path bytes)
 
 -- directories and one more, synced one after another
 syncs_and_last : (dirs : List (List ℕ)) (last : List ℕ) → sync_dirs dirs ++ SyncDir last ∷ [] ≡ sync_dirs (dirs ++ last ∷ [])

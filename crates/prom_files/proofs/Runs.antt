@@ -2,7 +2,6 @@
 use Rattle.std.specs.Prelude.{Result, Err, ℕ, ◌≡◌, ◌+◌, ◌<◌, List, [], ◌∷◌, ◌++◌, length, map, take, drop, refl}
 use Rattle.std.specs.List.{flat_map}
 use Rattle.std.proofs.Common.{ap, subst, sym, ◌∙◌, append_assoc, append-nil, get_or}
-use Rattle.std.proofs.lemmas.Grind.{flat_map-append}
 use Rattle.std.proofs.lemmas.List.{take_more, take-append-drop}
 use Rattle.prom_store.specs.Calls.{Call}
 use Rattle.prom_files.specs.Orders.{DidAll, DidFirst, Follows}

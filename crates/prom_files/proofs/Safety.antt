@@ -1,8 +1,8 @@
 -- What is safe in a crash, and calls that were not made.
 use Rattle.std.specs.Prelude.{ℕ, ◌≡◌, List, [], ◌∷◌, ◌++◌, Option, refl}
-use Rattle.std.proofs.Common.{inl, subst, sym, ap}
+use Rattle.std.proofs.Common.{inl, subst, sym}
 use Rattle.prom_store.specs.Calls.{Call}
-use Rattle.prom_files.specs.Crashes.{AfterCrash, IsCrashSafe}
+use Rattle.prom_files.specs.Crashes.{IsCrashSafe}
 use Rattle.prom_files.specs.Disk.{File, MayLeave, Standing, after_all, disk_of}
 use Rattle.prom_files.specs.Folders.{FileAt, LeavesFolder, LeavesOldOrFolder}
 use Rattle.prom_files.proofs.Disks.{left_as_before}
