@@ -2,8 +2,8 @@
 use Rattle.std.specs.Prelude.{◌≡◌, List, [], ◌++◌, string_bytes, map}
 use Rattle.std.proofs.Common.{sym, ◌∙◌, ap, append_assoc, append-nil}
 use Rattle.prom_store.specs.Calls.{Call, Create, CreateDir, Remove, Rename, SyncDir, SyncFile, Write}
-use Rattle.command_tests.specs.declared.noted.NotedCall.{NotedCall}
-use Rattle.command_tests.specs.declared.noted.NotedCall.TheVariants as noted
+use Rattle.command_tests.specs.declared.noted_call.NotedCall.{NotedCall}
+use Rattle.command_tests.specs.declared.noted_call.NotedCall.TheVariants as noted
 
 -- what was noted of a call
 abbrev pub call_of : NotedCall → Call

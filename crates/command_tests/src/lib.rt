@@ -16,6 +16,7 @@ mod fragments;
 mod meters;
 #[cfg(test)]
 mod noted;
+mod noted_call;
 #[cfg(test)]
 mod options;
 #[cfg(test)]
@@ -26,3 +27,5 @@ mod shelf;
 mod stores;
 #[cfg(test)]
 mod tree;
+
+pub use noted_call::NotedCall;

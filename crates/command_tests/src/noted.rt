@@ -3,23 +3,12 @@
 ghost use Rattle.std.specs.Prelude.{◌≡◌, ◌∷◌, ◌++◌, [], IfOk, OnErr, OnOk, string_bytes};
 
 use crate::checks::same;
+use crate::noted_call::NotedCall;
 use crate::runs::{APPEND, CHECKPOINT, CUT, carried_out, shelf_of};
 use crate::shelf::{Shelf, ShelfWriter};
 use head_replay::NoGate;
 use prom_store::{Store, StoreFault};
 use std::alloc::Global;
-
-/// A call that was made.
-#[derive(Debug, Drop, PartialEq)]
-pub enum NotedCall {
-    Create(String),
-    CreateDir(String),
-    Write(String, Vec<u8>),
-    SyncFile(String),
-    SyncDir(String),
-    Rename(String, String),
-    Remove(String),
-}
 
 /// A writer, with the path of its file.
 #[derive(Drop)]
