@@ -2,6 +2,7 @@
 use Rattle.std.specs.Prelude.{ℕ, ◌≡◌, List}
 use Rattle.std.proofs.Common.{inl, inr}
 use Rattle.prom_store.specs.Calls.{Call}
+use Rattle.prom_store.specs.Found.{Found}
 use Rattle.prom_store.specs.declared.requests.BlockRequest.{BlockRequest}
 use Rattle.prom_store.specs.declared.requests.BlockRequest.TheVariants as asked
 use Rattle.prom_store.specs.declared.requests.CutRequest.{CutRequest}
@@ -9,16 +10,16 @@ use Rattle.block_read.specs.declared.block.Block.{Block}
 use Rattle.prom_files.proofs.Safety.{for_less}
 use Rattle.block_commands.specs.Folders.{CarriesOut, Cuts, WritesBlock}
 
-module _ {S : Type 0} (did : S → List Call → S → Type 0) (old new : S) (V W : Type 0) (less : V → W) where
+module _ {S : Type 0} (did : S → List Call → S → Type 0) (holds : S → List ℕ → Found → Type 0) (old new : S) (V W : Type 0) (less : V → W) where
   writes_less : (out name : List ℕ) (block : Block) → WritesBlock did old out name block W new → WritesBlock did old out name block V new
   writes_less out name block (inl (same, failed)) = inl (same, λ v. failed (less v))
   writes_less out name block (inr safe) = inr (for_less did old _ _ new V W less safe)
 
-  cuts_less : (request : CutRequest) → Cuts did old request W new → Cuts did old request V new
+  cuts_less : (request : CutRequest) → Cuts did holds old request W new → Cuts did holds old request V new
   cuts_less request (inl (same, failed)) = inl (same, λ v. failed (less v))
-  cuts_less request (inr (log, block, is, wrote)) = inr (log, block, is, writes_less _ _ block wrote)
+  cuts_less request (inr (log, block, at, is, wrote)) = inr (log, block, at, is, writes_less _ _ block wrote)
 
-  pub carries_less : (request : BlockRequest) → CarriesOut did old request W new → CarriesOut did old request V new
+  pub carries_less : (request : BlockRequest) → CarriesOut did holds old request W new → CarriesOut did holds old request V new
   carries_less (asked.Cut request) has = cuts_less request has
   carries_less (asked.Ranges dir options) has = has
   carries_less (asked.Block path) has = has

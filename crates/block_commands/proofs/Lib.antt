@@ -1,4 +1,3 @@
 pub mod Folders
 pub mod Less
-pub mod Told
 pub mod Unlimited

@@ -2,6 +2,8 @@
 use Rattle.std.specs.Prelude.{◌≡◌, ◌⊎◌, ℕ, ◌+◌, List, [], ◌∷◌, ◌++◌, Option, codes}
 use Rattle.std.specs.Path.{path_join}
 use Rattle.prom_store.specs.Calls.{Call}
+use Rattle.prom_store.specs.Found.{Found}
+use Rattle.prom_store.specs.Views.{view_of}
 use Rattle.prom_store.specs.declared.requests.BlockRequest.{BlockRequest}
 use Rattle.prom_store.specs.declared.requests.BlockRequest.TheVariants as asked
 use Rattle.prom_store.specs.declared.requests.CutRequest.{CutRequest}
@@ -13,6 +15,7 @@ use Rattle.prom_files.specs.Crashes.{IsCrashSafe}
 use Rattle.prom_files.specs.Disk.{File, Standing}
 use Rattle.prom_files.specs.Folders.{FileAt, LeavesFolder, LeavesOldOrFolder}
 use Rattle.prom_files.specs.Targets.{unfinished_of, zero_filled}
+use Rattle.prom_commands.specs.Directory.{IsLogIn}
 
 -- the file of this name in a directory
 abbrev pub named : List ℕ → List ℕ → List ℕ → FileAt
@@ -50,14 +53,15 @@ LeavesBlock out name block =
 abbrev pub WritesBlock : {S : Type 0} → (S → List Call → S → Type 0) → S → List ℕ → List ℕ → Block → Type 0 → S → Type 0
 WritesBlock did old out name block WentWell new = ((new ≡ old) × (WentWell → ⊥)) ⊎ IsCrashSafe did old (LeavesOldOrBlock out name block) (LeavesBlock out name block) WentWell new
 
--- The block of a log was written, or the call failed before.
-abbrev pub Cuts : {S : Type 0} → (S → List Call → S → Type 0) → S → CutRequest → Type 0 → S → Type 0
-Cuts did old request WentWell new =
+-- The block of the log in the directory was written, or the call failed before.
+abbrev pub Cuts : {S : Type 0} → (S → List Call → S → Type 0) → (S → List ℕ → Found → Type 0) → S → CutRequest → Type 0 → S → Type 0
+Cuts did holds old request WentWell new =
     ((new ≡ old) × (WentWell → ⊥))
-    ⊎ ((log : Files) × (block : Block) × IsBlockOfLog log request.options.min_valid request.hour request.ulid.now block × WritesBlock did old request.out.now request.ulid.now block WentWell new)
+    ⊎ ((log : Files) × (block : Block) × IsLogIn (view_of (holds old)) request.dir.now log × IsBlockOfLog log request.options.min_valid request.hour request.ulid.now block
+    × WritesBlock did old request.out.now request.ulid.now block WentWell new)
 
 -- A request to cut writes a block. The other requests change nothing.
-abbrev pub CarriesOut : {S : Type 0} → (S → List Call → S → Type 0) → S → BlockRequest → Type 0 → S → Type 0
-CarriesOut did old (asked.Cut request) WentWell new = Cuts did old request WentWell new
-CarriesOut did old (asked.Ranges dir options) WentWell new = new ≡ old
-CarriesOut did old (asked.Block path) WentWell new = new ≡ old
+abbrev pub CarriesOut : {S : Type 0} → (S → List Call → S → Type 0) → (S → List ℕ → Found → Type 0) → S → BlockRequest → Type 0 → S → Type 0
+CarriesOut did holds old (asked.Cut request) WentWell new = Cuts did holds old request WentWell new
+CarriesOut did holds old (asked.Ranges dir options) WentWell new = new ≡ old
+CarriesOut did holds old (asked.Block path) WentWell new = new ≡ old

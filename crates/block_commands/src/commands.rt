@@ -19,7 +19,7 @@ fn execute<R: Threads + Wait + Sync, S: Store, P: Progress + Sync>(
     progress: &P,
     request: BlockRequest<'_>,
 ) -> Result<Answer, Fault>
-    ensures crash { CarriesOut S.did store.old request.entry (IsOk result) store.new }
+    ensures crash { CarriesOut S.did S.holds store.old request.entry (IsOk result) store.new }
 {
     match request {
         BlockRequest::Ranges { dir, options } => ranges(rt, alloc, store, progress, dir, &options),
@@ -37,7 +37,7 @@ pub fn carry_out_block<R: Threads + Wait + Sync, S: Store, P: Progress + Sync>(
     progress: &P,
     request: BlockRequest<'_>,
 ) -> Answer
-    ensures crash { CarriesOut S.did store.old request.entry (result.status ≡ Status.Done) store.new }
+    ensures crash { CarriesOut S.did S.holds store.old request.entry (result.status ≡ Status.Done) store.new }
 {
     match execute(rt, alloc, store, progress, request) {
         Ok(answer) => answer,

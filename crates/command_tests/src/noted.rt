@@ -1,6 +1,6 @@
 //! A store that notes its calls, over the store in memory.
 
-ghost use Rattle.std.specs.Prelude.{◌≡◌, ◌∷◌, ◌++◌, [], IfOk, OnErr, OnOk, string_bytes};
+ghost use Rattle.std.specs.Prelude.{◌≡◌, ◌∷◌, ◌++◌, [], IfOk, OnErr, OnOk, string_bytes, ⊤};
 
 use crate::checks::same;
 use crate::noted_call::NotedCall;
@@ -52,6 +52,8 @@ impl Store for Noted {
     ghost did = { λ old calls new. IsNoted old.calls.items calls new.calls.items };
 
     ghost is_of = { λ writer path. string_bytes writer.path ≡ path };
+
+    ghost holds = { λ _ _ _. ⊤ };
 
     ghost did_nothing = { λ state. noted_nothing state.calls.items };
 

@@ -166,6 +166,8 @@ impl Store for Shelf {
 
     ghost is_of = { λ _ _. ⊤ };
 
+    ghost holds = { λ _ _ _. ⊤ };
+
     ghost did_nothing = { λ _. tt };
 
     ghost did_both = { λ _ _ _ _ _ _ _. tt };

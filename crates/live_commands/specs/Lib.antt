@@ -1,2 +1,5 @@
 pub mod Checkpoints
+pub mod Crashes
+pub mod Logs
+pub mod RowTexts
 pub mod Segments

@@ -1,5 +1,9 @@
 //! Parsing a file of rows.
 
+ghost use Rattle.std.specs.Prelude.{IfOk, IfSome, map};
+ghost use Rattle.head_live.specs.Rows.{row_of as row_seen};
+ghost use Rattle.live_commands.specs.RowTexts.{AreRowsOf, IsNumberText, IsRowLine};
+
 use head_live::RawRow;
 use prom_commands::read_pair;
 use prom_store::Fault;
@@ -7,7 +11,9 @@ use std::alloc::{AllocError, Global};
 use std::str;
 
 // Parses a number: an optional minus and decimal digits.
-fn read_number(word: &str) -> Option<i64> {
+fn read_number(word: &str) -> Option<i64>
+    ensures { IfSome result (IsNumberText word.now) }
+{
     let digits = word.strip_prefix('-').unwrap_or(word);
     if digits.is_empty() || !digits.bytes().all(|byte| byte.is_ascii_digit()) {
         return None;
@@ -16,7 +22,9 @@ fn read_number(word: &str) -> Option<i64> {
 }
 
 // Parses a row: a time, a value and labels as they are printed, separated by one space.
-fn read_row(alloc: Global, line: &str) -> Result<Option<RawRow>, AllocError> {
+fn read_row(alloc: Global, line: &str) -> Result<Option<RawRow>, AllocError>
+    ensures { IfOk result (λ found. IfSome found (λ row. IsRowLine line.now (row_seen row))) }
+{
     let mut words = line.split(' ');
     let Some(time) = words.next().and_then(read_number) else {
         return Ok(None);
@@ -35,7 +43,9 @@ fn read_row(alloc: Global, line: &str) -> Result<Option<RawRow>, AllocError> {
 }
 
 // Parses the bytes of a line as a row.
-fn row_of(alloc: Global, line: &[u8]) -> Result<Option<RawRow>, AllocError> {
+fn row_of(alloc: Global, line: &[u8]) -> Result<Option<RawRow>, AllocError>
+    ensures { IfOk result (λ found. IfSome found (λ row. IsRowLine line.now (row_seen row))) }
+{
     match str::from_utf8(line) {
         Ok(line) => read_row(alloc, line),
         Err(_) => Ok(None),
@@ -43,7 +53,9 @@ fn row_of(alloc: Global, line: &[u8]) -> Result<Option<RawRow>, AllocError> {
 }
 
 /// Parses the rows of a file, one a line. The last newline may be missing. Returns `NotARow` with the first line that is no row.
-pub fn read_rows(alloc: Global, bytes: &[u8]) -> Result<Vec<RawRow>, Fault> {
+pub fn read_rows(alloc: Global, bytes: &[u8]) -> Result<Vec<RawRow>, Fault>
+    ensures { IfOk result (λ rows. AreRowsOf bytes.now (map row_seen rows.items)) }
+{
     let mut rows = Vec::new(alloc);
     if bytes.is_empty() {
         return Ok(rows);

@@ -1,11 +1,14 @@
 //! Spelling a label's bytes as text, and reading that text.
 
-ghost use Rattle.std.specs.Prelude.{◌<◌, ◌≤◌, IfSome, length};
+ghost use Rattle.std.specs.Prelude.{◌≡◌, ◌<◌, ◌≤◌, IfOk, IfSome, length, take};
+ghost use Rattle.prom_commands.specs.Spellings.{byte_spelling, digit_of, is_bare, pair_text, spelled};
 
 use std::alloc::{AllocError, Global};
 
 // Returns whether a byte is printed as itself.
-fn is_bare(byte: u8) -> bool {
+fn is_bare(byte: u8) -> bool
+    ensures { result ≡ is_bare byte }
+{
     byte.is_ascii_graphic() && byte != b'\\' && byte != b'='
 }
 
@@ -24,7 +27,8 @@ pub fn push_spelled(text: &mut String, label: &[u8]) -> Result<(), AllocError> {
 
 // Returns the number that a lower-case hexadecimal digit stands for.
 fn digit(digit: u8) -> Option<u8>
-    ensures { IfSome result (λ number. number < 16) }
+    ensures digit { IfSome result (λ number. digit ≡ digit_of number) }
+    ensures small { IfSome result (λ number. number < 16) }
 {
     match digit {
         b'0'..=b'9' => Some(digit - b'0'),
@@ -37,6 +41,7 @@ fn digit(digit: u8) -> Option<u8>
 fn front(word: &[u8]) -> Option<(u8, usize)>
     ensures some { IfSome result (λ r. 0 < r.1) }
     ensures within { IfSome result (λ r. r.1 ≤ length word.now) }
+    ensures spelled { IfSome result (λ r. take r.1 word.now ≡ byte_spelling r.0) }
 {
     let first = *word.first()?;
     if is_bare(first) {
@@ -53,7 +58,9 @@ fn front(word: &[u8]) -> Option<(u8, usize)>
 }
 
 // Returns the bytes that this word spells, or `None` if it spells none.
-fn read_spelled(alloc: Global, word: &str) -> Result<Option<Vec<u8>>, AllocError> {
+fn read_spelled(alloc: Global, word: &str) -> Result<Option<Vec<u8>>, AllocError>
+    ensures { IfOk result (λ found. IfSome found (λ label. word.now ≡ spelled label.items)) }
+{
     let mut label = Vec::new(alloc);
     let mut rest = word.as_bytes();
     while !rest.is_empty() {
@@ -68,7 +75,9 @@ fn read_spelled(alloc: Global, word: &str) -> Result<Option<Vec<u8>>, AllocError
 
 /// Reads a label of the form `NAME=VALUE`, both spelled as labels are printed. Returns its name and its value, or `None` if the word is no
 /// such label. The word has exactly one `=`.
-pub fn read_pair(alloc: Global, word: &str) -> Result<Option<(Vec<u8>, Vec<u8>)>, AllocError> {
+pub fn read_pair(alloc: Global, word: &str) -> Result<Option<(Vec<u8>, Vec<u8>)>, AllocError>
+    ensures { IfOk result (λ found. IfSome found (λ pair. word.now ≡ pair_text pair.0.items pair.1.items)) }
+{
     let Some((name, value)) = word.split_once('=') else {
         return Ok(None);
     };

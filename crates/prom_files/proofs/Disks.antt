@@ -123,6 +123,11 @@ left_as_before before leads left leaves path =
     let disk = disk_of before in
     read_old disk.content path (before path) (left path) refl (read_among disk.content (disk.names path) (option_map (λ _. Old path) (before path)) (leads path) (left path) refl (leaves path).0 (leaves path).1)
 
+pub leads_as_before : (before : Standing) (leads : List ℕ → Option File) (left : Standing) → MayLeave (disk_of before) leads left → (path : List ℕ) → leads path ≡ option_map (λ _. Old path) (before path)
+leads_as_before before leads left leaves path =
+    let stood : Option File = option_map (λ _. Old path) (before path) in
+    among_has (λ f. f ≡ stood) ((disk_of before).names path) (leads path) (leaves path).0 (refl, tt)
+
 is_there : Option File → Bool
 is_there None = false
 is_there (Some file) = true

@@ -1,17 +1,16 @@
 -- What a crash leaves of a new folder.
-use Rattle.std.specs.Prelude.{ℕ, ◌≡◌, ◌≢◌, ◌⊎◌, ◌<◌, ◌≤◌, ◌||◌, Bool, true, false, if◌then◌else◌, List, [], ◌∷◌, ◌++◌, length, map, Option, Some, None, refl, Result, Ok, Err, IsOk}
+use Rattle.std.specs.Prelude.{ℕ, ◌≡◌, ◌≢◌, ◌⊎◌, ◌<◌, ◌≤◌, ◌||◌, Bool, true, false, if◌then◌else◌, List, [], ◌∷◌, ◌++◌, length, map, Option, Some, None, refl}
 use Rattle.std.specs.Option.{option_map}
 use Rattle.std.specs.List.{AllByRecursion}
 use Rattle.std.proofs.Common.{inl, inr, ap, subst, sym, ◌∙◌, arith}
 use Rattle.std.proofs.lemmas.Bool.{false≢true, true≢false, cases_Bool}
 use Rattle.prom_store.specs.Calls.{Call, CreateDir, Rename, SyncDir}
-use Rattle.prom_files.specs.Crashes.{IsCrashSafe}
 use Rattle.prom_files.specs.Disk.{CanTake, CanTakeAll, Disk, File, IsAmong, MayLeave, MayRead, New, Old, Standing, after, after_all, disk_of, given, is_in, latest, led, no_bytes}
 use Rattle.prom_files.specs.Files.{file_calls}
-use Rattle.prom_files.specs.Folders.{AreInside, FileAt, IsWholeFolder, LeavesFolder, LeavesOldOrFolder, create_dirs, files_calls, is_inside, new_folder, sync_dirs, unfinished_folder}
-use Rattle.prom_files.specs.Orders.{AreAll, AreFirst, Follows, IsRemoval}
-use Rattle.prom_files.proofs.Disks.{Keeps, after_both, all_then, all_weaker, among_has, can_take_both, first_keep, given_elsewhere, given_here, latest_synced, led_elsewhere, led_here, olds_kept, read_among, read_old, read_synced, run_keep, synced_one, whole}
-use Rattle.prom_files.proofs.Orders.{AreBehind, exactly, first_apart, first_of_all, first_of_first}
+use Rattle.prom_files.specs.Folders.{AreInside, FileAt, IsWholeFolder, LeavesFolder, LeavesOldOrFolder, changed_paths, create_dirs, files_calls, is_inside, new_folder, sync_dirs, unfinished_folder}
+use Rattle.prom_files.specs.Orders.{AreAll, AreFirst, IsRemoval}
+use Rattle.prom_files.proofs.Disks.{Keeps, after_both, all_then, all_weaker, among_has, can_take_both, first_keep, given_elsewhere, given_here, latest_synced, led_elsewhere, led_here, not_there, olds_kept, read_among, read_old, read_synced, run_keep, synced_one, whole}
+use Rattle.prom_files.proofs.Orders.{AreBehind, exactly, first_apart}
 use Rattle.prom_files.proofs.Paths.{in_longer, inside_longer, longer_differs}
 
 -- ---- what was created
@@ -235,6 +234,7 @@ module _ (before : Standing) (parent path unfinished : List ℕ) (dirs : List (L
   -- ---- the unfinished folder is whole
 
   record IsFilled (disk : Disk) : Type 0 where
+    no_bytes_in : disk.content (New unfinished) ≡ whole []
     dirs_settled : AllByRecursion (λ dir. IsSettled dir [] disk) dirs
     files_settled : AllByRecursion (λ (file : FileAt). IsSettled file.path file.bytes disk) files
 
@@ -273,6 +273,7 @@ module _ (before : Standing) (parent path unfinished : List ℕ) (dirs : List (L
       subst Ready (sym run) (record {
         there = (made_past_syncs folders with_files unfinished [] root).leads;
         filled = record {
+          no_bytes_in = (made_past_syncs folders with_files unfinished [] root).synced;
           dirs_settled = all_settled (λ dir. dir) (λ _. []) dirs folders with_files inside (all_past_files with_dirs dirs can_files.0 (dirs_made dirs begun can_dirs.0));
           files_settled = all_settled (λ (file : FileAt). file.path) (λ file. file.bytes) files folders with_files of.files_in (files_made files with_dirs can_files.0);
         };
@@ -282,6 +283,7 @@ module _ (before : Standing) (parent path unfinished : List ℕ) (dirs : List (L
 
   filled_past_rename : (disk : Disk) → IsFilled disk → IsFilled (after disk (Rename unfinished path))
   filled_past_rename disk is = record {
+    no_bytes_in = is.no_bytes_in;
     dirs_settled = all_both_of dirs (λ dir. length unfinished < length dir) (λ dir. IsSettled dir [] disk) (λ dir. IsSettled dir [] (after disk (Rename unfinished path)))
         (λ dir l s. settled_past_rename disk unfinished path dir [] (longer_differs unfinished dir l) (longer_differs path dir (omega (arith, l, shorter))) s) long_dirs is.dirs_settled;
     files_settled = all_both_of files (λ (file : FileAt). length unfinished < length file.path) (λ file. IsSettled file.path file.bytes disk) (λ file. IsSettled file.path file.bytes (after disk (Rename unfinished path)))
@@ -293,6 +295,7 @@ module _ (before : Standing) (parent path unfinished : List ℕ) (dirs : List (L
 
   filled_past_sync : (disk : Disk) (dir : List ℕ) → IsFilled disk → IsFilled (after disk (SyncDir dir))
   filled_past_sync disk dir is = record {
+    no_bytes_in = is.no_bytes_in;
     dirs_settled = all_weaker (λ d. IsSettled d [] disk) (λ d. IsSettled d [] (after disk (SyncDir dir))) dirs (λ d s. settled_past_sync disk dir d [] s) is.dirs_settled;
     files_settled = all_weaker (λ (file : FileAt). IsSettled file.path file.bytes disk) (λ file. IsSettled file.path file.bytes (after disk (SyncDir dir))) files (λ file s. settled_past_sync disk dir file.path file.bytes s) is.files_settled;
   }
@@ -331,6 +334,7 @@ module _ (before : Standing) (parent path unfinished : List ℕ) (dirs : List (L
   filled_left : (disk : Disk) (leads : List ℕ → Option File) (left : Standing) → IsFilled disk → MayLeave disk leads left → leads path ≡ Some (New unfinished) → IsWholeFolder path unfinished dirs files leads left
   filled_left disk leads left filled leaves is = record {
     folder = is;
+    stands = read_synced disk.content (New unfinished) [] (left path) filled.no_bytes_in (subst (λ f. MayRead disk.content f (left path)) is (leaves path).1);
     dirs_there = all_weaker (λ dir. IsSettled dir [] disk) (λ dir. leads dir ≡ Some (New dir)) dirs (λ dir s. leads_to disk leads left dir (Some (New dir)) leaves s.leads) filled.dirs_settled;
     files_there = all_weaker (λ (file : FileAt). IsSettled file.path file.bytes disk) (λ file. left file.path ≡ Some file.bytes) files
         (λ file s. read_synced disk.content (New file.path) file.bytes (left file.path) s.synced (read_name disk leads left file.path (Some (New file.path)) leaves s.leads)) filled.files_settled;
@@ -342,33 +346,38 @@ module _ (before : Standing) (parent path unfinished : List ℕ) (dirs : List (L
       let disk = after_all (disk_of before) made in
       read_old disk.content name (before name) (left name) (olds_kept made (disk_of before) name) (read_name disk leads left name (stood name) leaves old)
 
+  -- what stood at the path stands there, or the whole folder, where nothing stood at the unfinished one
+  abbrev IsOldOrFolder : (List ℕ → Option File) → Standing → Type 0
+  IsOldOrFolder leads left = (left path ≡ before path) ⊎ ((before unfinished ≡ None) × IsWholeFolder path unfinished dirs files leads left)
+
   abbrev OldOrFolder : List Call → Type 0
-  OldOrFolder made = (leads : List ℕ → Option File) (left : Standing) → MayLeave (after_all (disk_of before) made) leads left → (left path ≡ before path) ⊎ IsWholeFolder path unfinished dirs files leads left
+  OldOrFolder made = (leads : List ℕ → Option File) (left : Standing) → MayLeave (after_all (disk_of before) made) leads left → IsOldOrFolder leads left
 
   old_or_folder : (made : List Call) → IsOld path (after_all (disk_of before) made) → OldOrFolder made
   old_or_folder made old leads left leaves = inl (old_left made leads left path leaves old)
 
-  moved_or_not : (made : List Call) (leads : List ℕ → Option File) (left : Standing) → MayLeave (after_all (disk_of before) made) leads left → IsFilled (after_all (disk_of before) made)
-      → IsAmong (Some (New unfinished) ∷ stood path ∷ []) (leads path) → (left path ≡ before path) ⊎ IsWholeFolder path unfinished dirs files leads left
-  moved_or_not made leads left leaves filled (inl is) = inr (filled_left (after_all (disk_of before) made) leads left filled leaves is)
-  moved_or_not made leads left leaves filled (inr (inl is)) =
+  moved_or_not : before unfinished ≡ None → (made : List Call) (leads : List ℕ → Option File) (left : Standing) → MayLeave (after_all (disk_of before) made) leads left → IsFilled (after_all (disk_of before) made)
+      → IsAmong (Some (New unfinished) ∷ stood path ∷ []) (leads path) → IsOldOrFolder leads left
+  moved_or_not none made leads left leaves filled (inl is) = inr (none, filled_left (after_all (disk_of before) made) leads left filled leaves is)
+  moved_or_not none made leads left leaves filled (inr (inl is)) =
       let disk = after_all (disk_of before) made in
       inl (read_old disk.content path (before path) (left path) (olds_kept made (disk_of before) path) (subst (λ f. MayRead disk.content f (left path)) is (leaves path).1))
-  moved_or_not made leads left leaves filled (inr (inr none)) = absurd none
+  moved_or_not none made leads left leaves filled (inr (inr nowhere)) = absurd nowhere
 
-  folder_moved : (made : List Call) (names : LeadsToFolder ((after_all (disk_of before) made).names path)) → IsFilled (after_all (disk_of before) made) → OldOrFolder made
-  folder_moved made (inl is) filled leads left leaves = moved_or_not made leads left leaves filled (subst (λ n. IsAmong n (leads path)) is (leaves path).0)
-  folder_moved made (inr is) filled leads left leaves = inr (filled_left (after_all (disk_of before) made) leads left filled leaves (leads_to (after_all (disk_of before) made) leads left path (Some (New unfinished)) leaves is))
+  folder_moved : before unfinished ≡ None → (made : List Call) (names : LeadsToFolder ((after_all (disk_of before) made).names path)) → IsFilled (after_all (disk_of before) made) → OldOrFolder made
+  folder_moved none made (inl is) filled leads left leaves = moved_or_not none made leads left leaves filled (subst (λ n. IsAmong n (leads path)) is (leaves path).0)
+  folder_moved none made (inr is) filled leads left leaves =
+      inr (none, filled_left (after_all (disk_of before) made) leads left filled leaves (leads_to (after_all (disk_of before) made) leads left path (Some (New unfinished)) leaves is))
 
-  moved_at : (made : List Call) → Moved (after_all (disk_of before) made) → OldOrFolder made
-  moved_at made has = folder_moved made has.names has.filled
+  moved_at : before unfinished ≡ None → (made : List Call) → Moved (after_all (disk_of before) made) → OldOrFolder made
+  moved_at none made has = folder_moved none made has.names has.filled
 
-  safe_late : (made b : List Call) → after_all (disk_of before) made ≡ after_all (after_all (disk_of before) early) b → Ready (after_all (disk_of before) early) → IsOld path (after_all (disk_of before) early) → AreFirst b late → OldOrFolder made
-  safe_late made b run at old (inl is) = old_or_folder made (subst (IsOld path) (sym (run ∙ ap (after_all (after_all (disk_of before) early)) is)) old)
-  safe_late made b run at old (inr (inl (rest, is, first))) =
-      moved_at made (subst Moved (sym (run ∙ ap (after_all (after_all (disk_of before) early)) is))
+  safe_late : before unfinished ≡ None → (made b : List Call) → after_all (disk_of before) made ≡ after_all (after_all (disk_of before) early) b → Ready (after_all (disk_of before) early) → IsOld path (after_all (disk_of before) early) → AreFirst b late → OldOrFolder made
+  safe_late none made b run at old (inl is) = old_or_folder made (subst (IsOld path) (sym (run ∙ ap (after_all (after_all (disk_of before) early)) is)) old)
+  safe_late none made b run at old (inr (inl (rest, is, first))) =
+      moved_at none made (subst Moved (sym (run ∙ ap (after_all (after_all (disk_of before) early)) is))
       (first_keep Moved (SyncDir parent ∷ []) rest (after (after_all (disk_of before) early) (Rename unfinished path)) (moved_past_sync, tt) first (moved (after_all (disk_of before) early) at old)))
-  safe_late made b run at old (inr (inr (removal, first))) = absurd removal
+  safe_late none made b run at old (inr (inr (removal, first))) = absurd removal
 
   path_old : (made : List Call) → AreFirst made early → IsOld path (after_all (disk_of before) made)
   path_old made first = first_keep (IsOld path) early made (disk_of before) path_early first refl
@@ -379,7 +388,7 @@ module _ (before : Standing) (parent path unfinished : List ℕ) (dirs : List (L
       let is : behind.a ≡ early = exactly behind.a early none_removed behind.all in
       let whole_is : made ≡ early ++ behind.b = behind.is ∙ ap (λ a. a ++ behind.b) is in
       let can_early = can_take_both (disk_of before) early behind.b (subst (CanTakeAll (disk_of before)) whole_is can) in
-      safe_late made behind.b (ap (after_all (disk_of before)) whole_is ∙ after_both (disk_of before) early behind.b) (ready (disk_of before) can_early.0)
+      safe_late (not_there (before unfinished) unfinished can_early.0.0) made behind.b (ap (after_all (disk_of before)) whole_is ∙ after_both (disk_of before) early behind.b) (ready (disk_of before) can_early.0)
       (run_keep (IsOld path) early (disk_of before) path_early refl) behind.first
 
   others_kept : (name : List ℕ) → AllByRecursion (λ other. name ≡ other → ⊥) (path ∷ unfinished ∷ dirs ++ map (λ (file : FileAt). file.path) files) → AllByRecursion (Keeps (IsOld name)) (new_folder parent path unfinished dirs files)
@@ -394,10 +403,14 @@ module _ (before : Standing) (parent path unfinished : List ℕ) (dirs : List (L
   -- A crash at any moment leaves what stood there, or the whole folder.
   pub any_moment : (made : List Call) → AreFirst made (new_folder parent path unfinished dirs files) → CanTakeAll (disk_of before) made → (leads : List ℕ → Option File) (left : Standing)
       → MayLeave (after_all (disk_of before) made) leads left → LeavesOldOrFolder path unfinished dirs files before leads left
-  any_moment made first can leads left leaves = record {
-    folder = safe_apart made can (first_apart made early late first) leads left leaves;
-    others = λ name apart. old_left made leads left name leaves (first_keep (IsOld name) (new_folder parent path unfinished dirs files) made (disk_of before) (others_kept name apart) first refl);
-  }
+  any_moment made first can leads left leaves =
+      let kept : (name : List ℕ) → AllByRecursion (λ other. name ≡ other → ⊥) (changed_paths path unfinished dirs files) → IsOld name (after_all (disk_of before) made) =
+      λ name apart. first_keep (IsOld name) (new_folder parent path unfinished dirs files) made (disk_of before) (others_kept name apart) first refl in
+      record {
+        folder = safe_apart made can (first_apart made early late first) leads left leaves;
+        others = λ name apart. old_left made leads left name leaves (kept name apart);
+        leads_as = λ name apart. leads_to (after_all (disk_of before) made) leads left name (stood name) leaves (kept name apart);
+      }
 
   -- A crash behind all of it leaves the whole folder.
   pub acknowledged : is_in parent path ≡ true → (made : List Call) → AreAll made (new_folder parent path unfinished dirs files) → CanTakeAll (disk_of before) made → (leads : List ℕ → Option File) (left : Standing)
@@ -417,22 +430,3 @@ module _ (before : Standing) (parent path unfinished : List ℕ) (dirs : List (L
         first_is : (names : List (Option File)) → LeadsToFolder names → latest names ≡ Some (New unfinished)
         first_is names (inl is) = ap latest is
         first_is names (inr is) = ap latest is
-
--- what makes a new folder is safe
-pub is_safe : {S T E : Type 0} (did : S → List Call → S → Type 0) (old : S) (parent path unfinished : List ℕ) (dirs : List (List ℕ)) (files : List FileAt) (result : Result T E) (new : S) → length path < length unfinished → is_in parent path ≡ true
-    → AreInside unfinished dirs files → Follows did old (new_folder parent path unfinished dirs files) result new
-    → IsCrashSafe did old (LeavesOldOrFolder path unfinished dirs files) (LeavesFolder path unfinished dirs files) (IsOk result) new
-is_safe did old parent path unfinished dirs files (Ok value) new shorter inside of all = record {
-  made = all.made;
-  done = all.done;
-  crash = λ first rest is before left leads can leaves. any_moment before parent path unfinished dirs files shorter of first
-      (first_of_first first rest (new_folder parent path unfinished dirs files) (subst (λ m. AreFirst m (new_folder parent path unfinished dirs files)) is (first_of_all all.made (new_folder parent path unfinished dirs files) all.are_all))) can leads left leaves;
-  well = λ went before left leads can leaves. acknowledged before parent path unfinished dirs files shorter of inside all.made all.are_all can leads left leaves;
-}
-is_safe did old parent path unfinished dirs files (Err fault) new shorter inside of part = record {
-  made = part.made;
-  done = part.done;
-  crash = λ first rest is before left leads can leaves. any_moment before parent path unfinished dirs files shorter of first
-      (first_of_first first rest (new_folder parent path unfinished dirs files) (subst (λ m. AreFirst m (new_folder parent path unfinished dirs files)) is part.are_first)) can leads left leaves;
-  well = λ went. absurd (false≢true went);
-}

@@ -3,6 +3,7 @@ pub mod Disks
 pub mod Exchanged
 pub mod FileCrash
 pub mod FolderCrash
+pub mod FolderSafe
 pub mod GivenUp
 pub mod Orders
 pub mod Paths

@@ -5,7 +5,7 @@ use Rattle.prom_store.specs.Calls.{Call}
 use Rattle.prom_files.specs.Crashes.{IsCrashSafe}
 use Rattle.prom_files.specs.Disk.{File, MayLeave, Standing, after_all, disk_of}
 use Rattle.prom_files.specs.Folders.{FileAt, LeavesFolder, LeavesOldOrFolder}
-use Rattle.prom_files.proofs.Disks.{left_as_before}
+use Rattle.prom_files.proofs.Disks.{leads_as_before, left_as_before}
 use Rattle.prom_files.proofs.Orders.{not_none}
 
 module _ {S : Type 0} (did : S → List Call → S → Type 0) (old : S) (Either New : Standing → (List ℕ → Option File) → Standing → Type 0) (new : S) where
@@ -23,7 +23,9 @@ pub untouched : {S : Type 0} (did : S → List Call → S → Type 0) (state : S
 untouched did state none path unfinished dirs files W failed = record {
   made = [];
   done = none;
-  crash = λ first rest is before left leads can leaves. let all = left_as_before before leads left (subst (λ m. MayLeave (after_all (disk_of before) m) leads left) (nothing_first first rest is) leaves) in
-      record { folder = inl (all path); others = λ other differ. all other };
+  crash = λ first rest is before left leads can leaves.
+      let unchanged = subst (λ m. MayLeave (after_all (disk_of before) m) leads left) (nothing_first first rest is) leaves in
+      let all = left_as_before before leads left unchanged in
+      record { folder = inl (all path); others = λ other differ. all other; leads_as = λ other differ. leads_as_before before leads left unchanged other };
   well = λ went. absurd (failed went);
 }

@@ -106,3 +106,7 @@ MayLeave disk leads left = (path : List ℕ) → IsAmong (disk.names path) (lead
 -- what stood at all paths but these stands there
 abbrev pub AreLeft : List (List ℕ) → Standing → Standing → Type 0
 AreLeft changed before left = (path : List ℕ) → AllByRecursion (λ other. path ≡ other → ⊥) changed → left path ≡ before path
+
+-- all paths but these lead to what stood there
+abbrev pub LeadAsBefore : List (List ℕ) → Standing → (List ℕ → Option File) → Type 0
+LeadAsBefore changed before leads = (path : List ℕ) → AllByRecursion (λ other. path ≡ other → ⊥) changed → leads path ≡ option_map (λ _. Old path) (before path)

@@ -1,9 +1,9 @@
 -- A new folder: the order in which it is written, and what a crash leaves of it.
-use Rattle.std.specs.Prelude.{◌≡◌, ◌⊎◌, ℕ, Bool, true, List, [], ◌∷◌, ◌++◌, map, Option, Some, string_bytes}
+use Rattle.std.specs.Prelude.{◌≡◌, ◌⊎◌, ℕ, Bool, true, List, [], ◌∷◌, ◌++◌, map, Option, None, Some, string_bytes}
 use Rattle.std.specs.List.{AllByRecursion, flat_map, list_any}
 use Rattle.prom_store.specs.Calls.{Call, CreateDir, Rename, SyncDir}
 use Rattle.prom_files.specs.declared.folder.NewFile.{NewFile}
-use Rattle.prom_files.specs.Disk.{AreLeft, File, New, Standing, is_in}
+use Rattle.prom_files.specs.Disk.{AreLeft, File, LeadAsBefore, New, Standing, is_in}
 use Rattle.prom_files.specs.Files.{file_calls}
 
 -- a file by its path and its bytes
@@ -42,10 +42,11 @@ unfinished_folder unfinished dirs files = (CreateDir unfinished ∷ create_dirs 
 abbrev pub new_folder : List ℕ → List ℕ → List ℕ → List (List ℕ) → List FileAt → List Call
 new_folder parent path unfinished dirs files = unfinished_folder unfinished dirs files ++ Rename unfinished path ∷ SyncDir parent ∷ []
 
--- The path leads to the folder that was created as the unfinished one, in which each directory and each file is whole. Their paths are
--- still those of the unfinished folder.
+-- The path leads to the folder that was created as the unfinished one and stands there, with no bytes, as a directory has none; each
+-- directory and each file in it is whole. Their paths are still those of the unfinished folder.
 pub record IsWholeFolder (path unfinished : List ℕ) (dirs : List (List ℕ)) (files : List FileAt) (leads : List ℕ → Option File) (left : Standing) : Type 0 where
   pub folder : leads path ≡ Some (New unfinished)
+  pub stands : left path ≡ Some []
   pub dirs_there : AllByRecursion (λ dir. leads dir ≡ Some (New dir)) dirs
   pub files_there : AllByRecursion (λ (file : FileAt). left file.path ≡ Some file.bytes) files
 
@@ -53,10 +54,12 @@ pub record IsWholeFolder (path unfinished : List ℕ) (dirs : List (List ℕ)) (
 abbrev pub changed_paths : List ℕ → List ℕ → List (List ℕ) → List FileAt → List (List ℕ)
 changed_paths path unfinished dirs files = path ∷ unfinished ∷ dirs ++ map (λ (file : FileAt). file.path) files
 
--- At the path stands what stood there, or the whole folder; and all else as before, but for the unfinished folder.
+-- At the path stands what stood there, or the whole folder, where nothing stood at the unfinished one; and all else as before, but for the
+-- unfinished folder.
 pub record LeavesOldOrFolder (path unfinished : List ℕ) (dirs : List (List ℕ)) (files : List FileAt) (before : Standing) (leads : List ℕ → Option File) (left : Standing) : Type 0 where
-  pub folder : (left path ≡ before path) ⊎ IsWholeFolder path unfinished dirs files leads left
+  pub folder : (left path ≡ before path) ⊎ ((before unfinished ≡ None) × IsWholeFolder path unfinished dirs files leads left)
   pub others : AreLeft (changed_paths path unfinished dirs files) before left
+  pub leads_as : LeadAsBefore (changed_paths path unfinished dirs files) before leads
 
 -- At the path stands the whole folder.
 pub record LeavesFolder (path unfinished : List ℕ) (dirs : List (List ℕ)) (files : List FileAt) (before : Standing) (leads : List ℕ → Option File) (left : Standing) : Type 0 where

@@ -3,4 +3,5 @@ pub mod Disk
 pub mod Files
 pub mod Folders
 pub mod Orders
+pub mod Shown
 pub mod Targets

@@ -1,3 +1,5 @@
 pub mod Calls
 pub mod Entries
 pub mod Faults
+pub mod Found
+pub mod Views

@@ -108,6 +108,8 @@ impl<R: Files + AllocGlobal + Clone + Drop> Store for Disk<'_, R> {
 
     ghost is_of = { λ _ _. ⊤ };
 
+    ghost holds = { λ _ _ _. ⊤ };
+
     ghost did_nothing = { λ _. tt };
 
     ghost did_both = { λ _ _ _ _ _ _ _. tt };

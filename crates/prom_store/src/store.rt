@@ -1,9 +1,10 @@
 //! What the program asks of a file system.
 
-ghost use Rattle.std.specs.Prelude.{◌≡◌, ◌↔◌, ℕ, List, [], ◌++◌, IfOk};
+ghost use Rattle.std.specs.Prelude.{◌≡◌, ◌↔◌, ℕ, List, [], ◌++◌, IfOk, map, string_bytes};
 ghost use Rattle.std.specs.IoError.{error_kind};
 ghost use Rattle.std.specs.declared.io.ErrorKind.TheVariants as kind;
 ghost use Rattle.prom_store.specs.Calls.{Call, Called, Create, CreateDir, Remove, Rename, SyncDir, SyncFile, Write};
+ghost use Rattle.prom_store.specs.Found.{Bytes, Found, Names};
 ghost use Rattle.prom_store.specs.declared.store.StoreFault.TheVariants.{OutOfMemory};
 
 use std::alloc::{AllocError, AllocFailed};
@@ -46,7 +47,8 @@ impl<T: Drop> From<AllocFailed<T>> for StoreFault {
 }
 
 /// Directories and files. Its calls have the names of `std::fs`. What a call that changes them did is told by `did`, a relation between two
-/// states of the store: a store over real files knows nothing of it, and code over any store claims only calls that it made.
+/// states of the store, and what a call that reads them found by `holds`: a store over real files knows nothing of either, and code over any
+/// store claims only calls that it made and what these gave.
 pub trait Store {
     /// A file that was created. It is closed when it is dropped.
     type Writer: Drop;
@@ -57,11 +59,16 @@ pub trait Store {
     /// The writer writes to the file that was created at this path.
     ghost is_of: { Self.Writer → List ℕ → Type 0 };
 
+    /// In this state this is found at the path.
+    ghost holds: { Self → List ℕ → Found → Type 0 };
+
     /// Returns the names in a directory, in any order. Returns an error if one of them is not UTF-8.
-    fn read_dir(&self, path: &str) -> Result<Vec<String>, StoreFault>;
+    fn read_dir(&self, path: &str) -> Result<Vec<String>, StoreFault>
+        ensures { IfOk result (λ names. holds self.now path.now (Names (map string_bytes names.items))) };
 
     /// Reads all bytes of a file.
-    fn read(&self, path: &str) -> Result<Vec<u8>, StoreFault>;
+    fn read(&self, path: &str) -> Result<Vec<u8>, StoreFault>
+        ensures { IfOk result (λ bytes. holds self.now path.now (Bytes bytes.items)) };
 
     /// Creates a file. Returns an error if the path exists.
     fn create_new(&mut self, path: &str) -> Result<Self::Writer, StoreFault>

@@ -10,4 +10,4 @@ returns g c =
     let request = c.args.request in
     let made = c.in_ok-block.ensures.block in
     let is : IsBlockOfLog log request.options.min_valid request.hour c.in-Ok.ulid block = search (rules, to_z-of_z, made) in
-    record { crash = inr (log, block, subst (λ ulid. IsBlockOfLog log request.options.min_valid request.hour ulid block) c.in-Ok.ensures.some is, c.put_block.ensures.crash) }
+    record { crash = inr (log, block, c.in_ok-log.ensures, subst (λ ulid. IsBlockOfLog log request.options.min_valid request.hour ulid block) c.in-Ok.ensures.some is, c.put_block.ensures.crash) }

@@ -1,7 +1,7 @@
 use Rattle.std.proofs.Common.{length, map, string_bytes, subst, sym, ◌<◌}
 use Rattle.prom_files.specs.Folders.{file_at, new_folder}
 use Rattle.prom_files.specs.Orders.{Follows}
-use Rattle.prom_files.proofs.FolderCrash.{is_safe}
+use Rattle.prom_files.proofs.FolderSafe.{is_safe}
 use Rattle.prom_files.proofs.Paths.{at_target, unfinished_longer}
 use Rattle.prom_files.proofs.folder.write_new_folder.Goals as goal
 
