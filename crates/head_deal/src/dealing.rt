@@ -42,11 +42,13 @@ ghost use Rattle.head_deal.specs.Dealing.{AllDone, AreShares, Course, Leads, Ref
 ghost use Rattle.head_deal.specs.Endings.{item_at, job_endings, outcomes, slot_endings, told};
 ghost use Rattle.head_deal.specs.Holding.{AreSeats};
 ghost use Rattle.head_deal.specs.Joining.{IsDeal, IsPartOf};
+ghost use Rattle.head_deal.specs.Spreads.{dealt_all};
 ghost use Rattle.head_deal.specs.declared.Stepped.TheVariants.{Empty};
 
-use crate::parts::{Part, build_parts, count_in, lone_part};
+use crate::parts::{Part, build_parts, count_in, lone_part, queue_all};
 use crate::seats::{Seat, make_room, make_seats, seat_next};
 use crate::spread::{make_rows, seat_all};
+use crate::spreads::Spread;
 use crate::{Builder, Stepped};
 use std::alloc::{AllocError, Global};
 use std::marker::Model;
@@ -238,7 +240,7 @@ impl<B: Builder> Deal<B> {
         self.workers
     }
 
-    /// Returns the number of items that were dealt. A deal takes at most 2^32; for more, begin a new deal.
+    /// Returns the number of items that were dealt. A deal of 2^32 or more takes no more; begin a new deal then.
     pub fn items(&self) -> usize
         ensures { result ≡ length self.now.jobs }
     {
@@ -316,6 +318,35 @@ impl<B: Builder> Deal<B> {
             }
             Err(item) => Err(item),
         }
+    }
+
+    /// Deals the items of a spread, one after another, after all that were dealt before. Moves no item: each worker takes its list as it is.
+    ///
+    /// Returns an error, and drops the deal, if out of memory.
+    pub fn deal_all(self, spread: Spread<B::Item>) -> Result<Deal<B>, AllocError>
+        requires workers { spread.workers ≡ self.workers }
+        requires exist { All (λ p. p.0 < length self.builders) spread.items }
+        requires numbered { length self.jobs < 2 ^ 32 }
+        ensures dealt { IfOk result (λ d. d ≡ dealt_all self spread.items) }
+    {
+        let Deal {
+            tag,
+            workers,
+            slots,
+            count,
+            seats,
+            mut parts,
+        } = self;
+        let more = spread.count;
+        queue_all(&mut parts, count as u32, spread.lists)?;
+        Ok(Deal {
+            tag,
+            workers,
+            slots,
+            count: count + more,
+            seats,
+            parts,
+        })
     }
 
     /// Applies the first item that a worker has left to its slot, and returns its outcome. Returns an error, with the values of all

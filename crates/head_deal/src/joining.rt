@@ -35,7 +35,6 @@ ghost use Rattle.std.specs.List.{list_any, flat_map};
 ghost use Rattle.std.specs.Prelude.{All};
 ghost use Rattle.head_deal.specs.Jobs.{is_queued};
 ghost use Rattle.head_deal.specs.Endings.{outcomes};
-ghost use Rattle.head_deal.specs.Entries.{entries};
 ghost use Rattle.head_deal.specs.Dealing.{strided, course, ending_values, ending_outcomes};
 ghost use Rattle.head_deal.specs.Joining.{
   is_alike,
@@ -61,7 +60,8 @@ ghost use Rattle.head_deal.specs.Joining.{
 };
 
 use crate::Builder;
-use crate::parts::{Due, Part};
+use crate::batches::note_outcomes;
+use crate::parts::Part;
 use std::alloc::{AllocError, Global};
 
 /// Why parts were not joined: the first of these that holds.
@@ -124,7 +124,7 @@ impl<B: Builder> Part<B> {
     fn has_unfinished(&self) -> bool
         ensures { result ≡ list_any (λ job. is_queued job.state) self.now.jobs }
     {
-        self.outcomes.len() < self.dues.len()
+        self.outcomes.len() < self.due_count
     }
 }
 
@@ -246,27 +246,17 @@ fn outcomes_to_write<B: Builder>(
     }
 }
 
-// Writes each outcome at its item's number.
-fn note_outcomes<I, O: Copy>(
-    all: &mut Vec<O>,
-    dues: &Vec<Due<I>>,
-    outcomes: &Vec<O>,
-    workers: usize,
-    worker: usize,
-)
-    requires { length outcomes.now.items ≤ length dues.now.items }
-    ensures { all.new.items ≡ written (numbered (entries worker workers dues.now.items outcomes.now.items)) all.old.items }
-{
-    for place in 0..outcomes.len() {
-        let number = dues[place].number as usize;
-        put(all, number, outcomes[place]);
-    }
-}
-
+// Writes each outcome of the part at its item's number.
 fn note_part<B: Builder>(all: &mut Vec<B::Outcome>, part: &Part<B>)
     ensures { all.new.items ≡ written (numbered part.now.jobs) all.old.items }
 {
-    note_outcomes(all, &part.dues, &part.outcomes, part.workers, part.worker);
+    note_outcomes(
+        all,
+        &part.batches,
+        &part.outcomes,
+        part.workers,
+        part.worker,
+    );
 }
 
 // Returns the outcomes of the parts, in the order of dealing.
@@ -319,8 +309,8 @@ fn seat_builders<B: Drop>(
     }
 }
 
-// Puts it at the place, if the list has that place.
-fn put<T: Drop>(list: &mut Vec<T>, place: usize, it: T)
+/// Puts it at the place, if the list has that place.
+pub(crate) fn put<T: Drop>(list: &mut Vec<T>, place: usize, it: T)
     ensures { list.new.items ≡ slice_set list.old.items place it }
 {
     if place < list.len() {

@@ -6,6 +6,9 @@
 //! A `Deal` has a builder in each slot, and deals items to the slots. Workers share the slots. Each runs its part of the deal alone, and
 //! the parts are joined again: the builders by slot, the outcomes in the order of dealing. They are the same as if all items were applied
 //! one after another, whatever the number of workers and the order of their steps (`deal_theorem`).
+//!
+//! Items can also be put in a `Spread` first, by any thread, and dealt from there at once (`Deal::deal_all`). That is the same as dealing
+//! them one after another.
 #![tactic(auto)]
 
 ghost use Rattle.std.specs.Prelude.{◌≡◌, IfOk, OnErr, OnOk};
@@ -13,16 +16,20 @@ ghost use Rattle.std.specs.Prelude.{◌≡◌, IfOk, OnErr, OnOk};
 use std::alloc::AllocError;
 
 mod again;
+mod batches;
 mod dealing;
 mod joining;
 mod parts;
 mod seats;
 mod spread;
+mod spreads;
 
 pub use again::{deal_again, outcomes_in_parts, parts_end};
 pub use dealing::{AddFault, AddRefused, Deal, DealFault, DealRefused, deal_theorem, slots_alone};
 pub use joining::{JoinFault, JoinRefused, Joined, join_parts};
 pub use parts::{Part, run_part};
+pub use seats::Seats;
+pub use spreads::{Spare, Spread, spread_items};
 
 /// Something that is built item by item. By the clauses of `apply`, the value after an item and the item's outcome are functions of the
 /// value before and of the item.

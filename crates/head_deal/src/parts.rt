@@ -1,17 +1,20 @@
 //! Parts: the builders and items of one worker.
 
-ghost use Rattle.std.specs.Prelude.{◌≡◌, ℕ, ◌<◌, ◌≤◌, ◌+◌, ◌*◌, ◌^◌, ◌++◌, ◌∷◌, [], length, replicate, All, OnOk, OnErr, IfErr, IfOk, slice_index_or, vec_capacity};
+ghost use Rattle.std.specs.Prelude.{◌≡◌, ℕ, ◌<◌, ◌≤◌, ◌+◌, ◌*◌, ◌^◌, ◌++◌, ◌∷◌, [], length, replicate, All, OnOk, OnErr, IfErr, IfOk, IfSome, slice_index_or, vec_capacity};
+ghost use Rattle.head_deal.specs.Batches.{flat, queued_as};
 ghost use Rattle.head_deal.specs.Dealing.{strided, share_course, share_lists, SameEndings, AllDone, StoppedAt, FitsIn, Kept, Leads};
 ghost use Rattle.head_deal.specs.Entries.{entries};
 ghost use Rattle.head_deal.specs.Holding.{PartStep};
 ghost use Rattle.head_deal.specs.Jobs.{Queued};
 
+use crate::batches::{Batch, batch_of, empty, open_last};
 use crate::{Builder, Stepped};
 use std::alloc::{AllocError, Global};
 use std::marker::Model;
 use std::mem;
 
-/// A dealt item: its number in the order of dealing, and the element of its builder among its worker's builders.
+/// An item for a worker: its number in the order of dealing, counted from a base, and the element of its builder among the worker's
+/// builders.
 #[derive(Drop)]
 pub(crate) struct Due<I> {
     pub(crate) number: u32,
@@ -29,13 +32,16 @@ pub struct Part<B: Builder> {
     pub(crate) all_slots: usize,
     pub(crate) all_jobs: usize,
     pub(crate) builders: Vec<B>,
-    pub(crate) dues: Vec<Due<B::Item>>,
+    pub(crate) due_count: usize,
+    pub(crate) batches: Vec<Batch<B::Item>>,
+    pub(crate) spare: Vec<Vec<Due<B::Item>>>,
     pub(crate) outcomes: Vec<B::Outcome>,
 }
 
 impl<B: Builder> Model for Part<B> {
-    ghost use Rattle.std.specs.Prelude.{List, ◌<◌, ◌≤◌, ◌+◌, ◌*◌, ◌^◌, ℕ, All, length};
+    ghost use Rattle.std.specs.Prelude.{List, [], ◌≡◌, ◌<◌, ◌≤◌, ◌+◌, ◌*◌, ◌^◌, ℕ, All, length};
     ghost use Rattle.head_deal.specs.Dealing.{Share, strided};
+    ghost use Rattle.head_deal.specs.Batches.{flat};
     ghost use Rattle.head_deal.specs.Entries.{entries};
 
     ghost Value = { Share B B.Item B.Outcome };
@@ -47,11 +53,12 @@ impl<B: Builder> Model for Part<B> {
       all_slots = p.all_slots;
       all_jobs = p.all_jobs;
       slots = strided p.worker p.workers p.builders.items;
-      jobs = entries p.worker p.workers p.dues.items p.outcomes.items;
+      jobs = entries p.worker p.workers (flat p.batches.items) p.outcomes.items;
     } };
 
-    ghost invariant = { λ p. (p.worker < p.workers) × All (λ due. due.element < length p.builders.items) p.dues.items ×
-        (length p.outcomes.items ≤ length p.dues.items) × (p.worker + length p.builders.items * p.workers < 2 ^ 64) };
+    ghost invariant = { λ p. (p.worker < p.workers) × All (λ due. due.element < length p.builders.items) (flat p.batches.items) ×
+        (length p.outcomes.items ≤ length (flat p.batches.items)) × (p.worker + length p.builders.items * p.workers < 2 ^ 64) ×
+        (p.due_count ≡ length (flat p.batches.items)) × All (λ l. l.items ≡ []) p.spare.items };
 }
 
 /// Applies the items that a part has left, in the order of dealing. Returns an error, and stops at the item that was refused, if out of
@@ -65,7 +72,8 @@ pub fn run_part<B: Builder>(part: &mut Part<B>) -> Result<(), AllocError>
 {
     run_dues(
         &mut part.builders,
-        &part.dues,
+        &part.batches,
+        part.due_count,
         &mut part.outcomes,
         part.workers,
         part.worker,
@@ -74,33 +82,42 @@ pub fn run_part<B: Builder>(part: &mut Part<B>) -> Result<(), AllocError>
 
 fn run_dues<B: Builder>(
     builders: &mut Vec<B>,
-    dues: &Vec<Due<B::Item>>,
+    batches: &Vec<Batch<B::Item>>,
+    count: usize,
     outcomes: &mut Vec<B::Outcome>,
     workers: usize,
     worker: usize,
 ) -> Result<(), AllocError>
     requires workers { worker < workers }
-    requires fit { All (λ due. due.element < length builders.old.items) dues.now.items }
-    requires some { length outcomes.old.items ≤ length dues.now.items }
-    ensures endings { SameEndings B.after B.outcome (share_lists B.value workers worker builders.old.items (entries worker workers dues.now.items outcomes.old.items))
-        (share_lists B.value workers worker builders.new.items (entries worker workers dues.now.items outcomes.new.items)) }
+    requires fit { All (λ due. due.element < length builders.old.items) (flat batches.now.items) }
+    requires some { length outcomes.old.items ≤ length (flat batches.now.items) }
+    requires count { count ≡ length (flat batches.now.items) }
+    ensures endings { SameEndings B.after B.outcome (share_lists B.value workers worker builders.old.items (entries worker workers (flat batches.now.items) outcomes.old.items))
+        (share_lists B.value workers worker builders.new.items (entries worker workers (flat batches.now.items) outcomes.new.items)) }
     ensures steps { (n : ℕ) ×
-        Leads B.after B.outcome (replicate n worker) (share_lists B.value workers worker builders.old.items (entries worker workers dues.now.items outcomes.old.items))
-        (share_lists B.value workers worker builders.new.items (entries worker workers dues.now.items outcomes.new.items)) }
-    ensures done { OnOk result (AllDone (entries worker workers dues.now.items outcomes.new.items)) }
-    ensures stopped { OnErr result ((place : ℕ) × StoppedAt (entries worker workers dues.now.items outcomes.old.items) (entries worker workers dues.now.items outcomes.new.items) place) }
+        Leads B.after B.outcome (replicate n worker) (share_lists B.value workers worker builders.old.items (entries worker workers (flat batches.now.items) outcomes.old.items))
+        (share_lists B.value workers worker builders.new.items (entries worker workers (flat batches.now.items) outcomes.new.items)) }
+    ensures done { OnOk result (AllDone (entries worker workers (flat batches.now.items) outcomes.new.items)) }
+    ensures stopped { OnErr result ((place : ℕ) ×
+        StoppedAt (entries worker workers (flat batches.now.items) outcomes.old.items) (entries worker workers (flat batches.now.items) outcomes.new.items) place) }
     ensures builders { length builders.new.items ≡ length builders.old.items }
-    ensures outcomes { length outcomes.new.items ≤ length dues.now.items }
+    ensures outcomes { length outcomes.new.items ≤ length (flat batches.now.items) }
 {
-    let first = outcomes.len();
-    outcomes.reserve(dues.len() - first)?;
-    for place in first..dues.len() {
-        let due = &dues[place];
-        let builder = &mut builders[due.element as usize];
-        match builder.apply(&due.item) {
-            Ok(outcome) => outcomes.push_reserved(outcome),
-            Err(refused) => return Err(refused),
+    // how many of the items to come are done
+    let mut done = outcomes.len();
+    outcomes.reserve(count - done)?;
+    for number in 0..batches.len() {
+        let dues = &batches[number].dues;
+        let first = done.min(dues.len());
+        for place in first..dues.len() {
+            let due = &dues[place];
+            let builder = &mut builders[due.element as usize];
+            match builder.apply(&due.item) {
+                Ok(outcome) => outcomes.push_reserved(outcome),
+                Err(refused) => return Err(refused),
+            }
         }
+        done -= first;
     }
     Ok(())
 }
@@ -113,14 +130,38 @@ impl<B: Builder> Part<B> {
         ensures refused { OnErr result (self.new ≡ self.old) }
         ensures handed_back { IfErr result (λ i. i ≡ item) }
     {
-        match self.dues.push(Due {
+        let Some(count) = self.due_count.checked_add(1) else {
+            return Err(item);
+        };
+        let Ok(place) = open_last(&mut self.batches, &mut self.spare, number) else {
+            return Err(item);
+        };
+        let batch = &mut self.batches[place];
+        let number = number - batch.base;
+        match batch.dues.push(Due {
             number,
             element,
             item,
         }) {
-            Ok(()) => Ok(()),
+            Ok(()) => {
+                self.due_count = count;
+                Ok(())
+            }
             Err(failed) => Err(failed.value.item),
         }
+    }
+
+    /// Adds a list of items, with their numbers counted from `base`.
+    pub(crate) fn queue(&mut self, base: u32, dues: Vec<Due<B::Item>>) -> Result<(), AllocError>
+        requires { All (λ due. due.element < length self.old.slots) dues.items }
+        ensures { OnOk result (self.new ≡ record self.old { jobs = self.old.jobs ++ queued_as self.old.worker self.old.workers base dues.items }) }
+    {
+        let Some(count) = self.due_count.checked_add(dues.len()) else {
+            return Err(AllocError);
+        };
+        self.batches.push(Batch { base, dues })?;
+        self.due_count = count;
+        Ok(())
     }
 
     /// Applies the first item that is left, and returns its outcome.
@@ -128,10 +169,11 @@ impl<B: Builder> Part<B> {
         ensures { PartStep B.value B.after B.outcome self.old result self.new }
     {
         let place = self.outcomes.len();
-        if place >= self.dues.len() {
+        if place >= self.due_count {
             return Ok(Stepped::Empty);
         }
-        let due = &self.dues[place];
+        let (batch, at) = batch_of(&self.batches, place);
+        let due = &self.batches[batch].dues[at];
         let builder = &mut self.builders[due.element as usize];
         match self.outcomes.reserve(1) {
             Ok(()) => {}
@@ -169,15 +211,41 @@ impl<B: Builder> Part<B> {
 }
 
 impl<B: Builder> Part<B> {
-    // Drops its items, and takes another tag. Its lists keep their memory.
+    // Drops its items, and takes another tag. Keeps the lists of the items, emptied.
     fn begin(&mut self, tag: u64)
         ensures { self.new ≡ record self.old { tag = tag; all_jobs = 0; jobs = [] } }
     {
         self.tag = tag;
         self.all_jobs = 0;
-        self.dues.clear();
+        self.due_count = 0;
+        empty(&mut self.batches, &mut self.spare);
         self.outcomes.clear();
     }
+
+    // Returns an empty list that the part has kept, if there is one.
+    fn take_spare(&mut self) -> Option<Vec<Due<B::Item>>>
+        ensures same { self.new ≡ self.old }
+        ensures empty { IfSome result (λ l. l.items ≡ []) }
+    {
+        self.spare.pop()
+    }
+}
+
+/// Returns an empty list of each part that has kept one.
+pub(crate) fn spare_lists<B: Builder>(
+    alloc: Global,
+    parts: &mut Vec<Part<B>>,
+) -> Result<Vec<Vec<Due<B::Item>>>, AllocError>
+    ensures same { parts.new.items ≡ parts.old.items }
+    ensures empty { IfOk result (λ lists. All (λ l. l.items ≡ []) lists.items) }
+{
+    let mut lists = Vec::with_capacity(alloc, parts.len())?;
+    for place in 0..parts.len() {
+        if let Some(list) = parts[place].take_spare() {
+            lists.push(list)?;
+        }
+    }
+    Ok(lists)
 }
 
 /// Drops the items of each part, and gives the parts another tag.
@@ -188,6 +256,30 @@ pub(crate) fn begin_all<B: Builder>(parts: &mut Vec<Part<B>>, tag: u64)
     for place in 0..parts.len() {
         parts[place].begin(tag);
     }
+}
+
+/// Adds to each part its list of items, with their numbers counted from `base`.
+pub(crate) fn queue_all<B: Builder>(
+    parts: &mut Vec<Part<B>>,
+    base: u32,
+    mut lists: Vec<Vec<Due<B::Item>>>,
+) -> Result<(), AllocError>
+    requires each { length lists.items ≡ length parts.old.items }
+    requires fit { (k : ℕ) (p : _) (l : _) → k < length parts.old.items →
+        All (λ due. due.element < length (slice_index_or parts.old.items k p).slots) (slice_index_or lists.items k l).items }
+    ensures each { length parts.new.items ≡ length parts.old.items }
+    ensures queued { OnOk result ((k : ℕ) (p : _) (l : _) → k < length parts.old.items →
+        slice_index_or parts.new.items k p ≡ record (slice_index_or parts.old.items k p) {
+          jobs = (slice_index_or parts.old.items k p).jobs ++
+              queued_as (slice_index_or parts.old.items k p).worker (slice_index_or parts.old.items k p).workers base (slice_index_or lists.items k l).items;
+        }) }
+{
+    let alloc = *lists.allocator();
+    for place in 0..parts.len() {
+        let list = mem::replace(&mut lists[place], Vec::new(alloc));
+        parts[place].queue(base, list)?;
+    }
+    Ok(())
 }
 
 /// Notes in each part the number of all slots and of all items.
@@ -211,7 +303,9 @@ pub(crate) fn lone_part<B: Builder>(alloc: Global, tag: u64, builders: Vec<B>) -
         all_slots: builders.len(),
         all_jobs: 0,
         builders,
-        dues: Vec::new(alloc),
+        due_count: 0,
+        batches: Vec::new(alloc),
+        spare: Vec::new(alloc),
         outcomes: Vec::new(alloc),
     }
 }
@@ -251,7 +345,9 @@ pub(crate) fn build_parts<B: Builder>(
             all_slots,
             all_jobs: 0,
             builders,
-            dues: Vec::new(alloc),
+            due_count: 0,
+            batches: Vec::new(alloc),
+            spare: Vec::new(alloc),
             outcomes: Vec::new(alloc),
         });
     }
