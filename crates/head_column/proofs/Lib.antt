@@ -14,3 +14,5 @@ pub mod Texts
 pub mod Windows
 pub mod Greatest
 pub mod Parts
+pub mod Flat
+pub mod Fronts

@@ -1,6 +1,6 @@
 //! A series, built item by item.
 
-ghost use Rattle.std.specs.Prelude.{◌≡◌, ◌+◌, ◌<◌, ◌≤◌, ◌∷◌, ◌++◌, [], ℕ, All, List, IfOk, IsOk, OnErr, OnOk, drop as drop_of, filter, int_lt, length};
+ghost use Rattle.std.specs.Prelude.{◌≡◌, ◌+◌, ◌<◌, ◌≤◌, ◌∷◌, ◌++◌, [], ℕ, All, List, IfOk, IsOk, OnErr, OnOk, filter, length};
 ghost use Rattle.head_column.specs.declared.items.Item.{Item as AnItem};
 ghost use Rattle.head_column.specs.declared.items.Outcome.TheVariants.{Stale, EmptyStone};
 ghost use Rattle.head_column.specs.Histories.{IsHistoryOf, has_reached, history_after, history_outcome, latest, no_history};
@@ -9,9 +9,10 @@ ghost use Rattle.head_column.specs.Runs.{AreApart};
 ghost use Rattle.head_column.specs.Samples.{Rises};
 ghost use Rattle.head_column.specs.Hours.{is_in_hour};
 ghost use Rattle.head_column.specs.Chunks.{IsFit, chunks_of};
-ghost use Rattle.head_column.specs.Validity.{history_from, samples_from, valid_items};
+ghost use Rattle.head_column.specs.Validity.{history_from, valid_items};
 
 use crate::cutting::cut_chunks;
+use crate::lists::SampleLists;
 use crate::runs::{cut, merge};
 use crate::times::{latest_from, reaches};
 use crate::{Chunk, Hour, Item, Outcome, Run, Sample};
@@ -30,26 +31,13 @@ fn fit_copy(sample: &Sample) -> Sample
     }
 }
 
-// Returns the number of samples before the time, by binary search.
-fn count_expired(samples: &[Sample], time: i64) -> usize
-    requires { Rises samples.now }
-    ensures within { result ≤ length samples.now }
-    ensures rest { samples_from time samples.now ≡ drop_of result samples.now }
-{
-    samples.partition_point(
-        |sample: &Sample| -> bool
-            ensures { result ≡ int_lt sample.now.time time }
-        { sample.time < time },
-    )
-}
-
 /// A series: its accepted samples, and the runs of its hidden times. Contracts see these as its history, and `spare`, a number of
 /// items that it takes without allocating.
 #[derive(Debug)]
 pub struct Column {
-    samples: Vec<Sample>,
+    samples: SampleLists,
     hidden: Vec<Run>,
-    // The greatest time of the samples, kept here so that an item needs no access to the end of their list.
+    // The greatest time of the samples, kept here so that an item needs no access to the end of the last list.
     latest: Option<i64>,
 }
 
@@ -75,11 +63,11 @@ impl Model for Column {
     ghost Value = { ColumnValue };
 
     ghost view = { λ c. record {
-      history = record { samples = c.samples.items; hidden = c.hidden.items };
-      spare = min (vec_capacity c.samples - vec_len c.samples) (vec_capacity c.hidden - vec_len c.hidden);
+      history = record { samples = c.samples.samples; hidden = c.hidden.items };
+      spare = min c.samples.room (vec_capacity c.hidden - vec_len c.hidden);
     } };
 
-    ghost invariant = { λ c. Rises c.samples.items × AreApart c.hidden.items × All IsFit c.samples.items × (c.latest ≡ latest_of c.samples.items) };
+    ghost invariant = { λ c. Rises c.samples.samples × AreApart c.hidden.items × All IsFit c.samples.samples × (c.latest ≡ latest_of c.samples.samples) };
 }
 
 impl Column {
@@ -89,13 +77,13 @@ impl Column {
         ensures items { IsHistoryOf [] result.history }
     {
         Column {
-            samples: Vec::new(alloc),
+            samples: SampleLists::new(alloc),
             hidden: Vec::new(alloc),
             latest: None,
         }
     }
 
-    /// Returns the number of accepted samples.
+    /// Returns the number of accepted samples. Takes a step for each list of them.
     pub fn len(&self) -> usize
         ensures { result ≡ length self.now.history.samples }
     {
@@ -122,7 +110,7 @@ impl Column {
         ensures samples { IfOk result (λ samples. samples.items ≡ self.now.history.samples) }
         ensures rises { IfOk result (λ samples. Rises samples.items) }
     {
-        Vec::from_slice(*self.samples.allocator(), self.samples_slice())
+        self.samples.to_vec()
     }
 
     /// Encodes the accepted samples of an hour in chunks of 120, counted from the first sample in the hour; the last chunk may have
@@ -133,15 +121,7 @@ impl Column {
         ensures fit { All IsFit self.now.history.samples }
         ensures apart { AreApart self.now.history.hidden }
     {
-        cut_chunks(*self.samples.allocator(), self.samples_slice(), hour)
-    }
-
-    /// Borrows the accepted samples.
-    pub(crate) fn samples_slice(&self) -> &[Sample]
-        ensures samples { result.now ≡ self.now.history.samples }
-        ensures rises { Rises result.now }
-    {
-        self.samples.as_slice()
+        cut_chunks(&self.samples, hour)
     }
 
     /// Allocates memory for this many more items of any kind. Returns an error if out of memory. In both cases the history is
@@ -163,8 +143,7 @@ impl Column {
         ensures items { (items : List AnItem) → IsHistoryOf items self.old.history → IsHistoryOf (valid_items min_valid items) self.new.history }
         ensures spare { self.old.spare ≤ self.new.spare }
     {
-        let gone = count_expired(&self.samples, min_valid);
-        self.samples.drain(..gone);
+        self.samples.drop_before(min_valid);
         cut(&mut self.hidden, min_valid);
         self.latest = latest_from(self.latest, min_valid);
     }

@@ -1,88 +1,63 @@
 //! Cutting the samples of an hour into chunks.
 
-ghost use Rattle.std.specs.Prelude.{◌≡◌, ◌<◌, ◌≤◌, true, false, filter, length, int_lt, IfOk};
-ghost use Rattle.std.specs.List.Sorted.{IsPartitionPoint};
+ghost use Rattle.std.specs.Prelude.{◌≡◌, ◌<◌, ◌≤◌, drop, filter, length, take, IfOk, OnOk};
 ghost use Rattle.head_column.specs.Samples.{Rises};
-ghost use Rattle.head_column.specs.Hours.{hour_start, is_in_hour};
-ghost use Rattle.head_column.specs.Chunks.{chunk_of as chunk_of_samples, chunk_samples, chunks_of};
+ghost use Rattle.head_column.specs.Hours.{is_in_hour};
+ghost use Rattle.head_column.specs.Chunks.{chunk_of, chunk_samples, chunks_of};
 
 use crate::chunk::{CHUNK_SAMPLES, Chunk};
-use crate::encoding::encode_chunk;
+use crate::encoding::{put_samples, time_of};
 use crate::hour::Hour;
-use crate::items::Sample;
-use hw_bytes::Items;
+use crate::lists::SampleLists;
+use crate::stretch::Stretch;
+use hw_bytes::{Items, put_be16};
 use std::alloc::{AllocError, Global};
 
-// Returns whether the sample is before hour k.
-fn is_before(sample: &Sample, k: i64) -> bool
-    ensures { result ≡ int_lt sample.now.time (hour_start k) }
+// Takes the first samples, which it encodes as a chunk.
+fn take_chunk(alloc: Global, rest: &mut Stretch<'_>, count: usize) -> Result<Chunk, AllocError>
+    requires some { 0 < count }
+    requires few { count ≤ chunk_samples }
+    requires there { count ≤ length rest.old }
+    ensures chunk { IfOk result (λ chunk. chunk ≡ chunk_of (take count rest.old)) }
+    ensures rest { OnOk result (rest.new ≡ drop count rest.old) }
 {
-    Hour::of(sample.time).k() < k
-}
-
-// Returns the number of samples before hour k.
-fn count_before(samples: &[Sample], k: i64) -> usize
-    requires { Rises samples.now }
-    ensures within { result ≤ length samples.now }
-    ensures point { IsPartitionPoint (λ s. int_lt s.time (hour_start k) ≡ true) (λ s. int_lt s.time (hour_start k) ≡ false) samples.now result }
-{
-    samples.partition_point(|sample| is_before(sample, k))
-}
-
-// Borrows the samples of the hour, which are consecutive.
-fn samples_of(samples: &[Sample], hour: Hour) -> &[Sample]
-    requires { Rises samples.now }
-    ensures those { result.now ≡ filter (λ s. is_in_hour hour s.time) samples.now }
-    ensures rises { Rises result.now }
-{
-    let (_, rest) = samples.split_at(count_before(samples, hour.k()));
-    let (those, _) = rest.split_at(count_before(rest, hour.k() + 1));
-    those
-}
-
-fn time_of(sample: &Sample) -> i64
-    ensures { result ≡ sample.now.time }
-{
-    sample.time
-}
-
-fn chunk_of(alloc: Global, samples: &[Sample]) -> Result<Chunk, AllocError>
-    requires some { 0 < length samples.now }
-    requires few { length samples.now ≤ chunk_samples }
-    requires rises { Rises samples.now }
-    ensures { IfOk result (λ chunk. chunk ≡ chunk_of_samples samples.now) }
-{
+    let mut text = Vec::new(alloc);
+    put_be16(&mut text, count as u16)?;
+    let first = rest.next_part(count);
+    let mut last = put_samples(&mut text, None, first)?;
+    let mut left = count - first.len();
+    while left > 0 {
+        let samples = rest.next_part(left);
+        last = put_samples(&mut text, Some(last), samples)?;
+        left -= samples.len();
+    }
     Ok(Chunk {
-        min_time: time_of(&samples[0]),
-        max_time: time_of(&samples[samples.len() - 1]),
-        count: samples.len(),
-        text: Items::from_vec(encode_chunk(alloc, samples)?),
+        min_time: time_of(&first[0]),
+        max_time: last,
+        count,
+        text: Items::from_vec(text),
     })
 }
 
 // Encodes all these samples in chunks.
-fn cut_all(alloc: Global, samples: &[Sample]) -> Result<Vec<Chunk>, AllocError>
-    requires { Rises samples.now }
-    ensures { IfOk result (λ chunks. chunks.items ≡ chunks_of samples.now) }
+fn cut_all(alloc: Global, samples: Stretch<'_>) -> Result<Vec<Chunk>, AllocError>
+    ensures { IfOk result (λ chunks. chunks.items ≡ chunks_of samples.entry) }
 {
     let mut chunks = Vec::new(alloc);
     let mut rest = samples;
-    while !rest.is_empty() {
-        let (those, others) = rest.split_at(rest.len().min(CHUNK_SAMPLES));
-        chunks.push(chunk_of(alloc, those)?)?;
-        rest = others;
+    let mut count = rest.count_to(CHUNK_SAMPLES);
+    while count > 0 {
+        chunks.push(take_chunk(alloc, &mut rest, count)?)?;
+        count = rest.count_to(CHUNK_SAMPLES);
     }
     Ok(chunks)
 }
 
 /// Encodes the samples of the hour in chunks of 120; the last chunk may have fewer.
-pub(crate) fn cut_chunks(
-    alloc: Global,
-    samples: &[Sample],
-    hour: Hour,
-) -> Result<Vec<Chunk>, AllocError>
-    requires { Rises samples.now }
-    ensures { IfOk result (λ chunks. chunks.items ≡ chunks_of (filter (λ s. is_in_hour hour s.time) samples.now)) }
+pub(crate) fn cut_chunks(samples: &SampleLists, hour: Hour) -> Result<Vec<Chunk>, AllocError>
+    requires { Rises samples.now.samples }
+    ensures { IfOk result (λ chunks. chunks.items ≡ chunks_of (filter (λ s. is_in_hour hour s.time) samples.now.samples)) }
 {
-    cut_all(alloc, samples_of(samples, hour))
+    let (start, end) = hour.bounds();
+    cut_all(samples.alloc(), samples.between(start, end))
 }

@@ -2,7 +2,7 @@
 
 ghost use Rattle.std.specs.Prelude.{◌≡◌, ◌<◌, ◌≤◌, ◌++◌, length, IfOk, OnOk};
 ghost use Rattle.head_column.specs.Samples.{Rises};
-ghost use Rattle.head_column.specs.Chunks.{IsFit, chunk_samples, time_text, sample_text, chunk_text};
+ghost use Rattle.head_column.specs.Chunks.{IsFit, chunk_samples, time_text, sample_text, samples_text, chunk_text, last_time};
 
 use crate::items::Sample;
 use hw_bytes::{put_be16, put_be64, put_uvarint, put_varint};
@@ -27,6 +27,31 @@ fn put_sample(bytes: &mut Vec<u8>, before: Option<i64>, sample: &Sample) -> Resu
     put_be64(bytes, sample.value.cast_unsigned())
 }
 
+/// Returns the sample's time. For proofs: it fits in 64 bits.
+pub(crate) fn time_of(sample: &Sample) -> i64
+    ensures { result ≡ sample.now.time }
+{
+    sample.time
+}
+
+/// Appends samples, the first one or the next after the time `before`, and those that follow. Returns the last one's time.
+pub(crate) fn put_samples(
+    bytes: &mut Vec<u8>,
+    before: Option<i64>,
+    samples: &[Sample],
+) -> Result<i64, AllocError>
+    requires { 0 < length samples.now }
+    ensures put { OnOk result (bytes.new.items ≡ bytes.old.items ++ samples_text before samples.now) }
+    ensures last { IfOk result (λ last. last ≡ last_time samples.now) }
+{
+    let mut before = before;
+    for sample in samples {
+        put_sample(bytes, before, sample)?;
+        before = Some(sample.time);
+    }
+    Ok(time_of(&samples[samples.len() - 1]))
+}
+
 /// Encodes 1 to 120 samples with ascending times as the text of a chunk: the number of samples in two bytes, big-endian, and for
 /// each sample its time and its value. The first time is a varint, in milliseconds, each later one the uvarint of the difference
 /// to the one before; values have eight bytes, big-endian, two's complement. Returns an error if out of memory.
@@ -38,10 +63,6 @@ pub fn encode_chunk(alloc: Global, samples: &[Sample]) -> Result<Vec<u8>, AllocE
 {
     let mut text = Vec::new(alloc);
     put_be16(&mut text, samples.len() as u16)?;
-    let mut before = None;
-    for sample in samples {
-        put_sample(&mut text, before, sample)?;
-        before = Some(sample.time);
-    }
+    put_samples(&mut text, None, samples)?;
     Ok(text)
 }

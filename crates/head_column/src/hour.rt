@@ -1,7 +1,7 @@
 //! Hours.
 
-ghost use Rattle.std.specs.Prelude.{◌≡◌, ◌↔◌, IsTrue, IfSome, IfNone};
-ghost use Rattle.head_column.specs.Hours.{is_in_hour, HasTime, IsEdge};
+ghost use Rattle.std.specs.Prelude.{◌≡◌, ◌↔◌, ◌+ℤ◌, pos, IsTrue, IfSome, IfNone};
+ghost use Rattle.head_column.specs.Hours.{hour_start, is_in_hour, HasTime, IsEdge};
 
 use std::marker::Model;
 
@@ -55,6 +55,15 @@ impl Hour {
         ensures held { HasTime self }
     {
         self.0
+    }
+
+    /// Returns the time at which the hour begins, and that at which the next one does. Either may not be an `i64`.
+    pub(crate) fn bounds(self) -> (i128, i128)
+        ensures start { result.0 ≡ hour_start self }
+        ensures end { result.1 ≡ hour_start (self +ℤ pos 1) }
+    {
+        let start = i128::from(self.k()) * i128::from(HOUR_LENGTH);
+        (start, start + i128::from(HOUR_LENGTH))
     }
 
     /// Returns whether some of its times is not an `i64`, so that it begins before the least or ends past the greatest.

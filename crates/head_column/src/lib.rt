@@ -12,7 +12,10 @@ mod encoding;
 mod hour;
 mod items;
 mod laws;
+mod lists;
 mod runs;
+mod searching;
+mod stretch;
 mod tally;
 mod times;
 

@@ -16,6 +16,7 @@ use Rattle.wal_record.specs.declared.record.WalRecord.{WalRecord}
 use Rattle.wal_record.specs.Labels.{same_labels, same_text}
 use Rattle.wal_record.specs.Entries.{Entry, series, sample, stone, entries_in, entries_of}
 use Rattle.wal_record.specs.Validity.{valid}
+use Rattle.head_deal.proofs.Entries.{all-push}
 use Rattle.head_column.specs.Histories.{ColumnValue, no_history}
 use Rattle.head_series.specs.Texts.{Text, place, texts_of}
 use Rattle.head_series.specs.Table.{Labels, Table, slot_at, has_series, with_series}
@@ -429,6 +430,15 @@ columns_same d f made new h = record {
   each = ap length made ∙ h.each ∙ ap length (sym new);
   unused = subst (All (λ (c : ColumnValue). c.history ≡ no_history)) (sym made) h.unused;
 }
+
+-- one empty column more, for a series that is new
+pub column_more : (d f : Drafted) (c : ColumnValue) (labels : Labels) → has_series d.series labels ≡ false → f.series ≡ with_series d.series labels → f.made.columns ≡ d.made.columns ++ c ∷ [] → c.history ≡ no_history → HaveColumns d → HaveColumns f
+column_more d f c labels absent new made unused h =
+    let series : f.series ≡ d.series ++ labels ∷ [] = new ∙ ap (λ (b : Bool). if b then d.series else d.series ++ labels ∷ []) absent in
+    record {
+      each = omega (arith, ap length series, length-append d.series (labels ∷ []), ap length made, length-append d.made.columns (c ∷ []), h.each);
+      unused = subst (All (λ (k : ColumnValue). k.history ≡ no_history)) (sym made) (all-push (λ (k : ColumnValue). k.history ≡ no_history) d.made.columns c h.unused unused);
+    }
 
 -- what is noted, beside another plan
 pub noted_same : (ss : List Labels) (at : ℕ → Option ℕ) (d f : Drafted) (es : List Entry) → f.series ≡ d.series → f.slots ≡ d.slots → f.counts ≡ d.counts → IsNoted ss at d es → IsNoted ss at f es

@@ -20,12 +20,12 @@ invariant_of-self-in-Stone c = (
 
 pub invariant_of-self-in-Sample : goal.invariant_of-self-in-Sample
 invariant_of-self-in-Sample c =
-    let samples : List Sample = c.self.inside.samples.items in
+    let samples : List Sample = c.self.inside.samples.samples in
     let s : Sample = c.fit_copy.result in
     let new : has_reached samples s.time ≡ false = grind (arith, to_z-of_z, c.if-has_reached.ensures) in
     let last : latest (samples ++ s ∷ []) ≡ Some s.time = latest-push samples s ∙ later_past (latest samples) s.time (sym (has_reached_latest samples s.time) ∙ new) in (
-      subst Rises (sym c.in_ok-push-in-Sample.ensures.items) (Rises-push samples s c.self.invariant.0 new),
+      subst Rises (sym c.in_ok-push-in-Sample.ensures.pushed) (Rises-push samples s c.self.invariant.0 new),
       c.self.invariant.1,
-      subst (All IsFit) (sym c.in_ok-push-in-Sample.ensures.items) (All-push IsFit samples s c.self.invariant.2 c.fit_copy.ensures.fit),
-      ap Some (grind (arith, to_z-of_z, c.fit_copy.ensures.same)) ∙ sym (ap latest c.in_ok-push-in-Sample.ensures.items ∙ last),
+      subst (All IsFit) (sym c.in_ok-push-in-Sample.ensures.pushed) (All-push IsFit samples s c.self.invariant.2 c.fit_copy.ensures.fit),
+      ap Some (grind (arith, to_z-of_z, c.fit_copy.ensures.same)) ∙ sym (ap latest c.in_ok-push-in-Sample.ensures.pushed ∙ last),
     )
