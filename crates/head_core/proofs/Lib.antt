@@ -11,6 +11,7 @@ pub mod Binding
 pub mod Whole
 pub mod Resolving
 pub mod ResolvingValid
+pub mod SpreadRecords
 pub mod Assembling
 pub mod OneContent
 pub mod Truncating

@@ -85,15 +85,18 @@ valid_at m f xs i x {v} {k} {w} {is} {js} within at t s =
     ))
     (resolves_both (valid_entry m (f x)) t s)
 
-pub valid_stopped_at : {A : Type 0} (m : ℤ) (f : A → Entry) (xs : List A) (i : ℕ) (x : A) {v k : ResolverValue} {is : List (ℕ × Item)} → i < length xs → x ≡ get_or xs i x
-    → Resolves v (flat_map (valid_entry m) (map f (take i xs))) is k → IsStoppedIn k (valid_entry m (f x)) → IsStoppedIn v (flat_map (valid_entry m) (map f xs))
-valid_stopped_at m f xs i x within at t s =
-    stopped_both (valid_entry m (f x)) (flat_map (valid_entry m) (map f (drop (i + 1) xs))) (flat_map (valid_entry m) (map f xs)) t s
-    (
+-- what is left of all entries: of those that a loop has read, of the one that it reads, and of the rest
+pub left_split : {A : Type 0} (m : ℤ) (f : A → Entry) (xs : List A) (i : ℕ) (x : A) → i < length xs → x ≡ get_or xs i x
+    → flat_map (valid_entry m) (map f xs) ≡ flat_map (valid_entry m) (map f (take i xs)) ++ (valid_entry m (f x) ++ flat_map (valid_entry m) (map f (drop (i + 1) xs)))
+left_split m f xs i x within at =
     ap (λ ys. flat_map (valid_entry m) (map f ys)) (sym (take-append-drop i xs) ∙ ap (λ ys. take i xs ++ ys) (drop_more xs i x within ∙ ap (λ y. y ∷ drop (i + 1) xs) (sym at)))
     ∙ ap (flat_map (valid_entry m)) (map-append f (take i xs) (x ∷ drop (i + 1) xs))
     ∙ flat_map-append (valid_entry m) (map f (take i xs)) (map f (x ∷ drop (i + 1) xs))
-    )
+
+pub valid_stopped_at : {A : Type 0} (m : ℤ) (f : A → Entry) (xs : List A) (i : ℕ) (x : A) {v k : ResolverValue} {is : List (ℕ × Item)} → i < length xs → x ≡ get_or xs i x
+    → Resolves v (flat_map (valid_entry m) (map f (take i xs))) is k → IsStoppedIn k (valid_entry m (f x)) → IsStoppedIn v (flat_map (valid_entry m) (map f xs))
+valid_stopped_at m f xs i x within at t s =
+    stopped_both (valid_entry m (f x)) (flat_map (valid_entry m) (map f (drop (i + 1) xs))) (flat_map (valid_entry m) (map f xs)) t s (left_split m f xs i x within at)
 
 -- ---- how many are expired
 

@@ -6,6 +6,7 @@ pub mod Steps
 pub mod Resolved
 pub mod Validity
 pub mod Resolving
+pub mod Spreading
 pub mod Applied
 pub mod Heads
 pub mod Room

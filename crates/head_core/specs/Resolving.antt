@@ -1,4 +1,5 @@
--- What one entry does to a resolver: words of proofs and of private functions, which no public contract cites.
+-- What one entry does to a resolver. Mostly words of proofs and of private functions; docs/DEFINITIONS.md lists those that public
+-- contracts cite.
 use Rattle.std.specs.Prelude.{◌≡◌, ℕ, List, [], ◌++◌, ◌∷◌, ◌⊎◌, Option, None, Some}
 use Rattle.wal_record.specs.Entries.{Entry, series, sample, stone}
 use Rattle.head_column.specs.declared.items.Item.{Item}

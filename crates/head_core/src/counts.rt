@@ -2,10 +2,11 @@
 
 ghost use Rattle.std.specs.Prelude.{◌≡◌, ◌↔◌, ◌⊎◌, ◌+◌, ◌<◌, ◌≤◌, [], All, Err, None, IfOk, IfSome, IsOk, IsTrue, OnErr, OnOk, length};
 ghost use Rattle.wal_record.specs.Entries.{entries_in, entries_of};
-ghost use Rattle.head_core.specs.Content.{count_limit};
-ghost use Rattle.head_core.specs.Counts.{fate_of, unknown_fate};
+ghost use Rattle.head_core.specs.Content.{AreCountsWithin, count_limit};
+ghost use Rattle.head_core.specs.Counts.{count_of_class, fate_of, unknown_fate};
 ghost use Rattle.head_core.specs.Room.{HaveClasses, HaveCounts, HaveExpired};
-ghost use Rattle.head_core.specs.Steps.{count_of_fate, no_counts, with_fate};
+ghost use Rattle.head_core.specs.Spreading.{plus};
+ghost use Rattle.head_core.specs.Steps.{count_of_fate, no_counts, with_fate, with_record};
 
 use crate::fault::HeadFault;
 use head_column::{Item, Outcome};
@@ -49,7 +50,7 @@ pub(crate) fn one_more(count: &mut u64) -> Result<(), HeadFault>
 }
 
 // Returns the sum of a count and a number, or `Full` if it does not fit in 64 bits.
-fn sum(count: u64, more: usize) -> Result<u64, HeadFault>
+fn sum(count: u64, more: u64) -> Result<u64, HeadFault>
     ensures sum { IfOk result (λ sum. sum ≡ count + more) }
     ensures full { result ≡ Err HeadFault.Full → count_limit < count + more }
     ensures few { count + more ≤ count_limit → IsOk result }
@@ -57,7 +58,7 @@ fn sum(count: u64, more: usize) -> Result<u64, HeadFault>
     ensures fault { result ≡ Err HeadFault.Memory → ⊥ }
     ensures sound { result ≡ Err HeadFault.Failed → ⊥ }
 {
-    count.checked_add(more as u64).ok_or(HeadFault::Full)
+    count.checked_add(more).ok_or(HeadFault::Full)
 }
 
 // Returns the number of entries of a record.
@@ -177,6 +178,47 @@ impl Counts {
         }
     }
 
+    // Adds 1 to the count of a record's type.
+    pub(crate) fn add_record(&mut self, log_record: &WalRecord) -> Result<(), HeadFault>
+        ensures more { OnOk result (self.new ≡ with_record log_record.now self.old) }
+        ensures full { result ≡ Err HeadFault.Full → count_of_class log_record.now self.old ≡ count_limit }
+        ensures counted { count_of_class log_record.now self.old ≡ count_limit → result ≡ Err HeadFault.Full }
+        ensures few { count_of_class log_record.now self.old < count_limit → IsOk result }
+        ensures fault { result ≡ Err HeadFault.Memory → ⊥ }
+        ensures sound { result ≡ Err HeadFault.Failed → ⊥ }
+    {
+        match log_record {
+            WalRecord::Series(_) => one_more(&mut self.series_records),
+            WalRecord::Samples(_) => one_more(&mut self.sample_records),
+            WalRecord::Stones(_) => one_more(&mut self.stone_records),
+            WalRecord::Other(_) => one_more(&mut self.skipped_records),
+        }
+    }
+
+    // Returns the sums of these counts and others, or `Full` if one of them does not fit in 64 bits.
+    pub(crate) fn plus(&self, others: &Counts) -> Result<Counts, HeadFault>
+        ensures sums { IfOk result (λ sums. sums ≡ plus self.now others.now) }
+        ensures full { result ≡ Err HeadFault.Full → AreCountsWithin (plus self.now others.now) → ⊥ }
+        ensures fault { result ≡ Err HeadFault.Memory → ⊥ }
+        ensures sound { result ≡ Err HeadFault.Failed → ⊥ }
+    {
+        Ok(Counts {
+            series_records: sum(self.series_records, others.series_records)?,
+            sample_records: sum(self.sample_records, others.sample_records)?,
+            stone_records: sum(self.stone_records, others.stone_records)?,
+            skipped_records: sum(self.skipped_records, others.skipped_records)?,
+            series_entries: sum(self.series_entries, others.series_entries)?,
+            accepted: sum(self.accepted, others.accepted)?,
+            stale: sum(self.stale, others.stale)?,
+            unknown: sum(self.unknown, others.unknown)?,
+            hiding: sum(self.hiding, others.hiding)?,
+            empty_stones: sum(self.empty_stones, others.empty_stones)?,
+            unknown_stones: sum(self.unknown_stones, others.unknown_stones)?,
+            expired_samples: sum(self.expired_samples, others.expired_samples)?,
+            expired_stones: sum(self.expired_stones, others.expired_stones)?,
+        })
+    }
+
     // Adds the numbers of expired samples and deletions to their counts.
     pub(crate) fn add_expired(&mut self, samples: usize, stones: usize) -> Result<(), HeadFault>
         ensures more { OnOk result (self.new ≡ record self.old { expired_samples = self.old.expired_samples + samples; expired_stones = self.old.expired_stones + stones }) }
@@ -186,8 +228,8 @@ impl Counts {
         ensures fault { result ≡ Err HeadFault.Memory → ⊥ }
         ensures sound { result ≡ Err HeadFault.Failed → ⊥ }
     {
-        self.expired_samples = sum(self.expired_samples, samples)?;
-        self.expired_stones = sum(self.expired_stones, stones)?;
+        self.expired_samples = sum(self.expired_samples, samples as u64)?;
+        self.expired_stones = sum(self.expired_stones, stones as u64)?;
         Ok(())
     }
 

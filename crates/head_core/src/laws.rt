@@ -12,15 +12,17 @@ ghost use Rattle.head_column.specs.Histories.{history_after, history_outcome, la
 ghost use Rattle.head_column.specs.Hours.{is_in_hour};
 ghost use Rattle.head_column.specs.Tallies.{latest_after, latest_outcome};
 ghost use Rattle.head_series.specs.Bindings.{series_of};
-ghost use Rattle.head_series.specs.Table.{IsLeast, Labels, after, labels_at, slot_at};
+ghost use Rattle.head_series.specs.Table.{IsLeast, Labels, Table, after, labels_at, slot_at};
 ghost use Rattle.head_series.specs.Texts.{Text, place};
 ghost use Rattle.head_postings.specs.Postings.{selected};
 ghost use Rattle.head_core.specs.Owners.{bindings};
-ghost use Rattle.head_core.specs.Taken.{Taken, taken_after, taken_of};
+ghost use Rattle.head_core.specs.Taken.{Taken, taken_after, taken_of, taken_with};
 ghost use Rattle.head_core.specs.Counts.{counts_of, fate_at, items_of, known};
 ghost use Rattle.head_core.specs.Content.{AreAlike, AreHistoriesOf, Content, IsContentOf, IsShownBy, IsWithinLimits};
 ghost use Rattle.head_core.specs.Heads.{history_at};
 ghost use Rattle.head_core.specs.Resolved.{resolved, IsResolvable};
+ghost use Rattle.head_core.specs.Spreading.{AreSpread};
+ghost use Rattle.head_core.specs.Steps.{no_counts};
 ghost use Rattle.head_core.specs.Validity.{HaveFates, IsValidEntry, content_from, entry_from};
 ghost use Rattle.head_core.specs.Applied.{AreCountsOfOutcomes, new_slots, outcomes_after, values_after};
 
@@ -88,6 +90,12 @@ pub fn items_make_series()
 pub fn limits_hold_before()
     ensures front { (m : ℤ) (rs more : List LogRecord) → IsWithinLimits (taken_of m (rs ++ more)) → IsWithinLimits (taken_of m rs) }
     ensures resolvable { (t : Taken) → IsWithinLimits t → IsResolvable t }
+{}
+
+/// Of no records nothing is spread (`none`), and what is taken of more records with the same least valid time is taken of all (`taken`).
+pub fn spread_records()
+    ensures none { (m : ℤ) (table : Table) → AreSpread m table [] [] no_counts }
+    ensures taken { (m : ℤ) (rs more : List LogRecord) → taken_with m (taken_of m rs) more ≡ taken_of m (rs ++ more) }
 {}
 
 /// What a least valid time leaves of entries makes the content without the samples and the hidden times before it (`shown`), and the

@@ -18,6 +18,7 @@ mod replay;
 mod reserved;
 mod reserving;
 mod resolver;
+mod spreading;
 mod views;
 
 pub use counts::Counts;
@@ -27,9 +28,10 @@ pub use head_column::{Chunk, Column, Hour, Item, Outcome, Run, Sample};
 pub use head_series::Slot;
 pub use laws::{
     alike_answers, checkpoint, items_make_series, limits_hold_before, one_content, slots_stay,
-    truncation,
+    spread_records, truncation,
 };
 pub use postings::postings_of;
 pub use replay::{ReplayFault, Replayed, replay_serial, replay_serial_from};
 pub use reserved::Reserved;
 pub use resolver::Resolver;
+pub use spreading::binds_any;
