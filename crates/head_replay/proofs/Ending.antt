@@ -6,6 +6,8 @@ use Rattle.std.proofs.lemmas.List.{append-nil}
 use Rattle.head_deal.specs.Jobs.{Job, State, Queued, Finished}
 use Rattle.head_deal.specs.Endings.{item_at, moved, moved_by, told, told_of, with_outcome_of, outcomes, slot_endings}
 use Rattle.head_deal.specs.Dealing.{Dealing, course, end_slots, end_jobs, ending_values, ending_outcomes}
+use Rattle.head_deal.specs.Spreads.{dealt, dealt_all}
+use Rattle.head_deal.proofs.Steps.{slot_endings_more, job_endings_more}
 use Rattle.head_column.specs.declared.items.Item.{Item}
 use Rattle.head_column.specs.declared.items.Outcome.{Outcome}
 use Rattle.head_core.specs.declared.counts.Counts.{Counts}
@@ -137,3 +139,21 @@ module _ {B V : Type 0} (value : B → V) (after : V → Item → V) (outcome : 
     -- the outcomes of all items are those that were counted, those of the deal, and those of the items that are not dealt yet
     pub all_outcomes : (more : List (ℕ × Item)) → outcomes_after after outcome slots (items ++ more) ≡ (h.counted ++ ending_outcomes after outcome (course value d)) ++ outcomes_after after outcome (values_after after slots items) more
     all_outcomes more = outcomes_both after outcome slots items more ∙ ap (λ (os : List Outcome). os ++ outcomes_after after outcome (values_after after slots items) more) (sym h.outcomes)
+
+  -- the items of a spread are dealt
+  pub ends_all : {slots : List (ℕ × V)} (ks : List (ℕ × Item)) {items : List (ℕ × Item)} {d : Dealing B Item Outcome} {c : Counts} → Ends value after outcome slots items d c → Ends value after outcome slots (items ++ ks) (dealt_all d ks) c
+  ends_all {slots} [] {items} {d} {c} h = subst (λ (is : List (ℕ × Item)). Ends value after outcome slots is d c) (sym (append-nil items)) h
+  ends_all {slots} (k ∷ ks) {items} {d} {c} h =
+      let job : Job Item Outcome = record { number = length d.jobs; slot = k.0; state = Queued k.1 } in
+      let first : List (ℕ × V) = enumerate_from 0 (map value d.builders) in
+      subst (λ (is : List (ℕ × Item)). Ends value after outcome slots is (dealt_all (dealt d k.0 k.1) ks) c) (append_assoc items (k ∷ []) ks)
+      (ends_all ks (ends_more h (dealt d k.0 k.1) (length d.jobs) k.0 k.1 (slot_endings_more after outcome first d.jobs job) (job_endings_more after outcome first d.jobs job)))
+
+  -- a spread changes no worker and no builder
+  pub dealt_workers : (ks : List (ℕ × Item)) (d : Dealing B Item Outcome) → (dealt_all d ks).workers ≡ d.workers
+  dealt_workers [] d = refl
+  dealt_workers (k ∷ ks) d = dealt_workers ks (dealt d k.0 k.1)
+
+  pub dealt_builders : (ks : List (ℕ × Item)) (d : Dealing B Item Outcome) → (dealt_all d ks).builders ≡ d.builders
+  dealt_builders [] d = refl
+  dealt_builders (k ∷ ks) d = dealt_builders ks (dealt d k.0 k.1)

@@ -7,4 +7,6 @@ pub mod Made
 pub mod Partial
 pub mod RecordByRecord
 pub mod Shares
+pub mod SpreadLemmas
 pub mod Taken
+pub mod Windows

@@ -1,6 +1,9 @@
 pub mod Applying
 pub mod Faults
 pub mod Partial
+pub mod Records
+pub mod Shares
 pub mod Standing
 pub mod Taken
 pub mod Taking
+pub mod Windows
