@@ -12,7 +12,7 @@ ghost use Rattle.head_replay.specs.Windows.{AreMadeOf, IsFresh};
 use head_column::Item;
 use head_core::{Counts, Resolver, spread_records};
 use head_crew::{Crew, CrewFault, Gate, Job};
-use head_deal::{Seats, Spread};
+use head_deal::{Seats, Spare, Spread};
 use std::alloc::{AllocError, Global};
 use std::mem;
 use std::sync::Wait;
@@ -29,12 +29,20 @@ pub(crate) struct Spreading {
 }
 
 impl Spreading {
-    // Returns what no records make.
-    fn new(alloc: Global, seats: &Seats<'_>) -> Result<Spreading, AllocError>
+    // Returns what no records make, in the memory of spare lists, if there are any.
+    fn new(
+        alloc: Global,
+        seats: &Seats<'_>,
+        spare: Option<Spare<Item>>,
+    ) -> Result<Spreading, AllocError>
         ensures { IfOk result (IsFresh seats.now.workers) }
     {
+        let spread = match spare {
+            Some(spare) => Spread::in_room(alloc, seats, spare)?,
+            None => Spread::new(alloc, seats)?,
+        };
         Ok(Spreading {
-            spread: Spread::new(alloc, seats)?,
+            spread,
             counts: Counts::new(),
             room: Room::new(alloc),
         })
@@ -117,6 +125,7 @@ fn new_job<'t>(
     alloc: Global,
     resolver: &'t Resolver,
     seats: &'t Seats<'t>,
+    spare: Option<Spare<Item>>,
     pages: Vec<Items<Placed>>,
 ) -> Result<SpreadJob<'t>, AllocError>
     requires sound { resolver.now.failed ≡ false }
@@ -129,7 +138,7 @@ fn new_job<'t>(
         resolver,
         seats,
         pages,
-        made: Spreading::new(alloc, seats)?,
+        made: Spreading::new(alloc, seats, spare)?,
     })
 }
 
@@ -139,6 +148,7 @@ fn spread_jobs<'t>(
     resolver: &'t Resolver,
     seats: &'t Seats<'t>,
     workers: usize,
+    mut spares: Vec<Spare<Item>>,
     pages: Vec<Items<Placed>>,
 ) -> Result<Vec<SpreadJob<'t>>, AllocError>
     requires some { 0 < workers }
@@ -153,10 +163,10 @@ fn spread_jobs<'t>(
     let mut rest = pages;
     for _worker in 1..workers {
         let behind = rest.split_off(each.min(rest.len()))?;
-        jobs.push(new_job(alloc, resolver, seats, rest)?)?;
+        jobs.push(new_job(alloc, resolver, seats, spares.pop(), rest)?)?;
         rest = behind;
     }
-    jobs.push(new_job(alloc, resolver, seats, rest)?)?;
+    jobs.push(new_job(alloc, resolver, seats, spares.pop(), rest)?)?;
     Ok(jobs)
 }
 
@@ -178,14 +188,15 @@ fn all_made(alloc: Global, jobs: Vec<SpreadJob<'_>>) -> Result<Vec<Spreading>, A
     Ok(all)
 }
 
-/// Spreads the records of pages, which bind no reference, each worker those of some pages. Returns what they make, in the order of the
-/// pages. Returns an error if out of memory, or if a thread can't start.
+/// Spreads the records of pages, which bind no reference, each worker those of some pages, in the memory of spare lists. Returns what they
+/// make, in the order of the pages. Returns an error if out of memory, or if a thread can't start.
 pub(crate) fn spread_by<R: Threads + Wait + Sync, G: Gate + Sync>(
     crew: &Crew<'_, R, G>,
     alloc: Global,
     turn: u64,
     resolver: &Resolver,
     seats: &Seats<'_>,
+    spares: Vec<Spare<Item>>,
     pages: Vec<Items<Placed>>,
 ) -> Result<Vec<Spreading>, CrewFault>
     requires some { 0 < seats.now.workers }
@@ -196,7 +207,7 @@ pub(crate) fn spread_by<R: Threads + Wait + Sync, G: Gate + Sync>(
 {
     // a law that the proof rests on
     spread_records();
-    let jobs = spread_jobs(alloc, resolver, seats, seats.workers(), pages)?;
+    let jobs = spread_jobs(alloc, resolver, seats, seats.workers(), spares, pages)?;
     let done = crew.without_gate().finish(turn, jobs)?;
     Ok(all_made(alloc, done)?)
 }
