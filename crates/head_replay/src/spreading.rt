@@ -7,16 +7,14 @@ ghost use Rattle.wal_record.specs.declared.record.WalRecord.{WalRecord as LogRec
 ghost use Rattle.wal_log.specs.Log.{contents};
 ghost use Rattle.head_core.specs.Spreading.{AreSpread};
 ghost use Rattle.head_replay.specs.Records.{AreQuiet, records_of};
-ghost use Rattle.head_replay.specs.Windows.{AreMadeOf, IsFresh};
+ghost use Rattle.head_replay.specs.Windows.{IsFresh};
 
 use head_column::Item;
-use head_core::{Counts, Resolver, spread_records};
-use head_crew::{Crew, CrewFault, Gate, Job};
+use head_core::{Counts, Resolver};
+use head_crew::{Gate, Job};
 use head_deal::{Seats, Spare, Spread};
 use std::alloc::{AllocError, Global};
 use std::mem;
-use std::sync::Wait;
-use std::thread::Threads;
 use wal_log::{Items, Placed};
 use wal_scan::Room;
 
@@ -142,22 +140,22 @@ fn new_job<'t>(
     })
 }
 
-// Makes a job for each worker, and shares the pages out among them, in order.
-fn spread_jobs<'t>(
+/// Makes a job for each worker, and shares the pages out among them, in order. Their lists are made of the spare ones, if there are any.
+pub(crate) fn spread_jobs<'t>(
     alloc: Global,
     resolver: &'t Resolver,
     seats: &'t Seats<'t>,
-    workers: usize,
     mut spares: Vec<Spare<Item>>,
     pages: Vec<Items<Placed>>,
 ) -> Result<Vec<SpreadJob<'t>>, AllocError>
-    requires some { 0 < workers }
+    requires some { 0 < seats.now.workers }
     requires sound { resolver.now.failed ≡ false }
     requires slots { length resolver.now.table.series ≤ seats.now.slots }
-    ensures count { IfOk result (λ jobs. vec_len jobs ≡ workers) }
+    ensures count { IfOk result (λ jobs. vec_len jobs ≡ seats.now.workers) }
     ensures fresh { IfOk result (λ jobs. AllByRecursion (λ job. (job.resolver.now ≡ resolver.now) × IsFresh seats.now.workers job.made) jobs.items) }
     ensures pages { IfOk result (λ jobs. flat_map (λ job. job.pages.items) jobs.items ≡ pages.items) }
 {
+    let workers = seats.workers();
     let each = pages.len().div_ceil(workers);
     let mut jobs = Vec::with_capacity(alloc, workers)?;
     let mut rest = pages;
@@ -170,8 +168,11 @@ fn spread_jobs<'t>(
     Ok(jobs)
 }
 
-// Returns what the records of each job made.
-fn all_made(alloc: Global, jobs: Vec<SpreadJob<'_>>) -> Result<Vec<Spreading>, AllocError>
+/// Returns what the records of each job made.
+pub(crate) fn all_made(
+    alloc: Global,
+    jobs: Vec<SpreadJob<'_>>,
+) -> Result<Vec<Spreading>, AllocError>
     ensures { IfOk result (λ all. all.items ≡ map (λ job. job.made) jobs.entry.items) }
 {
     let mut all = Vec::with_capacity(alloc, jobs.len())?;
@@ -186,28 +187,4 @@ fn all_made(alloc: Global, jobs: Vec<SpreadJob<'_>>) -> Result<Vec<Spreading>, A
         all.push(made)?;
     }
     Ok(all)
-}
-
-/// Spreads the records of pages, which bind no reference, each worker those of some pages, in the memory of spare lists. Returns what they
-/// make, in the order of the pages. Returns an error if out of memory, or if a thread can't start.
-pub(crate) fn spread_by<R: Threads + Wait + Sync, G: Gate + Sync>(
-    crew: &Crew<'_, R, G>,
-    alloc: Global,
-    turn: u64,
-    resolver: &Resolver,
-    seats: &Seats<'_>,
-    spares: Vec<Spare<Item>>,
-    pages: Vec<Items<Placed>>,
-) -> Result<Vec<Spreading>, CrewFault>
-    requires some { 0 < seats.now.workers }
-    requires most { seats.now.workers ≤ 64 }
-    requires sound { resolver.now.failed ≡ false }
-    requires slots { length resolver.now.table.series ≤ seats.now.slots }
-    ensures { AllByRecursion AreQuiet pages.items → IfOk result (λ all. AreMadeOf resolver.now.min_valid resolver.now.table seats.now.workers (records_of pages.items) all.items) }
-{
-    // a law that the proof rests on
-    spread_records();
-    let jobs = spread_jobs(alloc, resolver, seats, seats.workers(), spares, pages)?;
-    let done = crew.without_gate().finish(turn, jobs)?;
-    Ok(all_made(alloc, done)?)
 }
