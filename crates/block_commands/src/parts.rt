@@ -2,7 +2,7 @@
 
 use block_read::Block;
 use hw_bytes::Items;
-use prom_commands::{names_in, read_in};
+use prom_commands::{names_in, read_in, read_paths};
 use prom_files::six_digits;
 use prom_store::{Fault, Store, join};
 use std::alloc::{AllocError, Global};
@@ -34,12 +34,14 @@ fn chunk_count(alloc: Global, names: &[String]) -> Result<Option<u64>, AllocErro
 fn read_chunks<S: Store>(alloc: Global, store: &S, dir: &str) -> Result<Items<Items<u8>>, Fault> {
     let names = names_in(alloc, store, dir)?;
     let count = chunk_count(alloc, &names)?.unwrap_or(0);
-    let mut files = Vec::new(alloc);
+    let mut paths = Vec::new(alloc);
     for number in 1..=count {
         let name = six_digits(alloc, number)?;
-        files.push(read_in(alloc, store, dir, &name)?)?;
+        paths.push(join(alloc, dir, &name)?)?;
     }
-    Ok(Items::from_vec(files))
+    let files = read_paths(alloc, store, &paths)?;
+    let chunks = files.into_iter().map(Items::from_vec).collect(alloc)?;
+    Ok(Items::from_vec(chunks))
 }
 
 /// Reads the parts of the block in a folder. All parts are read before any is checked.

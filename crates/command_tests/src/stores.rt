@@ -129,6 +129,55 @@ fn store_of_real_files(rt: HostRuntime) -> Result<(), Fail> {
     Ok(())
 }
 
+// Makes a file of each length in a directory, and gives the paths and the bytes.
+fn make_files(
+    rt: &HostRuntime,
+    dir: &str,
+    lengths: &[u32],
+) -> Result<(Vec<String>, Vec<Vec<u8>>), Fail> {
+    let alloc = rt.alloc();
+    let (mut paths, mut files) = (Vec::new(alloc), Vec::new(alloc));
+    for length in lengths {
+        let path = format!(in alloc; "{dir}/{length}")?;
+        let bytes: Vec<u8> = (0..*length).map(|i| (i % 251) as u8).collect(alloc)?;
+        fs::write(rt, &path, &bytes)?;
+        paths.push(path)?;
+        files.push(bytes)?;
+    }
+    Ok((paths, files))
+}
+
+// Several files are read side by side, and a large one in parts. Of those that cannot be read the first is told.
+#[test]
+fn files_side_by_side(rt: HostRuntime) -> Result<(), Fail> {
+    let alloc = rt.alloc();
+    let dir = format!(in alloc; "{}.files", own_path(&rt)?)?;
+    let _ = fs::remove_dir_all(&rt, &dir);
+    fs::create_dir(&rt, &dir)?;
+    let disk = Disk::new(&rt);
+    for lengths in [
+        [9_000_001, 0, 70_000].as_slice(),
+        [9_000_001].as_slice(),
+        [].as_slice(),
+    ] {
+        let (mut paths, wanted) = make_files(&rt, &dir, lengths)?;
+        let found = disk.read_files(alloc, &paths);
+        assert!(rt; found.is_ok_and(|found| found == wanted), "{lengths:?}");
+        for name in ["none", ""] {
+            paths.push(format!(in alloc; "{dir}/{name}")?)?;
+        }
+        let refused = disk.read_files(alloc, &paths).err();
+        same(
+            &rt,
+            "refused",
+            refused,
+            Some((lengths.len(), StoreFault::Refused)),
+        );
+    }
+    fs::remove_dir_all(&rt, &dir)?;
+    Ok(())
+}
+
 // Writes three words, of which the second is the third call of the shelf, and fails. Gives what the file then holds.
 fn written(alloc: Global, shelf: &mut Shelf) -> Result<String, StoreFault> {
     let mut writer = shelf.create_new("new")?;

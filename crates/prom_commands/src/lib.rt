@@ -10,7 +10,7 @@ mod report;
 mod spelling;
 
 pub use commands::{Answer, carry_out};
-pub use directory::{names_in, read_in, read_log};
+pub use directory::{names_in, read_in, read_log, read_paths};
 pub use heads::undamaged_head;
 pub use meter::Meter;
 pub use progress::{Progress, extent_of};

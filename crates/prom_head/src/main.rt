@@ -6,11 +6,11 @@ mod program;
 
 use crate::program::run;
 use prom_commands::{Answer, Meter};
-use prom_store::{Disk, Fault, LineFault, Status};
+use prom_store::{Disk, Fault, LineFault, Status, Store};
 use std::env;
 use std::io::{ErrorKind, IsTerminal};
 use std::process::ExitCode;
-use std::rt::{Env, Files};
+use std::rt::Env;
 use std::sync::Wait;
 use std::thread::Threads;
 use std::time::Clock;
@@ -50,17 +50,18 @@ fn show<R: Print + Eprint>(rt: &R, answer: &Answer) -> Status {
     answer.status
 }
 
-// Runs the program on real files.
-fn run_here<R: Env + Files + Clock + Eprint + AllocGlobal + Threads + Wait + Sync + Clone + Drop>(
+// Runs the program over a store.
+fn run_here<R: Env + Clock + Eprint + AllocGlobal + Threads + Wait + Sync + Drop, S: Store>(
     rt: &R,
+    store: &mut S,
     is_terminal: bool,
 ) -> Result<Answer, LineFault> {
     let words = arguments(rt)?;
-    run(rt, &mut Disk::new(rt), &Meter::new(rt, is_terminal), &words)
+    run(rt, store, &Meter::new(rt, is_terminal), &words)
 }
 
 fn main(rt: HostRuntime) -> ExitCode {
-    let status = match run_here(&rt, rt.stderr().is_terminal()) {
+    let status = match run_here(&rt, &mut Disk::new(&rt), rt.stderr().is_terminal()) {
         Ok(answer) => show(&rt, &answer),
         Err(fault) => refuse(&rt, &fault),
     };

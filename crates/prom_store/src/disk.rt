@@ -1,6 +1,6 @@
 //! The store over real files.
 
-ghost use Rattle.std.specs.Prelude.{◌≡◌, ◌⊎◌, Ok, Err, IfErr, IfOk, IfSome, IsErr, MatchResult, ⊤, map, string_bytes};
+ghost use Rattle.std.specs.Prelude.{◌≡◌, ◌+◌, ◌^◌, ◌<◌, ◌⊎◌, Ok, Err, IfErr, IfOk, IfSome, IsErr, MatchResult, ⊤, length, map, string_bytes};
 ghost use Rattle.std.specs.Iterator.{Drains, IsFinite};
 ghost use Rattle.std.specs.Fs.{dir_entry_name};
 ghost use Rattle.prom_store.specs.Entries.{Gives};
@@ -9,18 +9,21 @@ use crate::store::{Store, StoreFault};
 use std::alloc::Global;
 use std::fs::{DirEntry, File, OpenFile};
 use std::io::{ErrorKind, Read, Write};
+use std::os::unix::fs::FileExt;
 use std::rt::Files;
-use std::{fs, io};
+use std::thread::Threads;
+use std::{fs, io, thread};
 
-/// The file system of a runtime.
+/// The file system of the host. Several files are read side by side, and a large one in parts, by threads of the runtime `rt`.
 #[derive(Drop)]
 pub struct Disk<'a, R> {
     rt: &'a R,
+    host: HostRuntime,
 }
 
-impl<'a, R> Disk<'a, R> {
-    pub fn new(rt: &'a R) -> Disk<'a, R> {
-        Disk { rt }
+impl<'a> Disk<'a, HostRuntime> {
+    pub fn new(rt: &'a HostRuntime) -> Disk<'a, HostRuntime> {
+        Disk { rt, host: *rt }
     }
 }
 
@@ -100,8 +103,172 @@ pub fn names_of<I: Iterator<Item = Result<String, StoreFault>> + Drop>(
     Ok(names)
 }
 
-impl<R: Files + AllocGlobal + Clone + Drop> Store for Disk<'_, R> {
-    type Writer = R::File;
+/// The most threads that read files.
+const MOST_READERS: usize = 8;
+
+/// The most parts that a file is read in, each by a thread.
+const MOST_PARTS: usize = 4;
+
+/// The fewest bytes of a file that is read in parts.
+const LEAST_IN_PARTS: u64 = 8 * 1024 * 1024;
+
+// Reads the part of a file that begins at `from`, in so many threads, this one among them. Returns whether all of it was read.
+#[cycle(parts)]
+fn fill<R: Threads>(rt: &R, file: &File, threads: usize, from: u64, part: &mut [u8]) -> bool
+    requires { from + length part.old < 2 ^ 64 }
+{
+    if threads < 2 {
+        return file.read_exact_at(part, from).is_ok();
+    }
+    let share = part.len() / threads;
+    let (front, back) = part.split_at_mut(share);
+    let past = from + share as u64;
+    let mut here = || -> bool
+        requires { (1 < threads) × (past + length back.now < 2 ^ 64) }
+    { fill(rt, file, threads - 1, past, back) };
+    let (front, back) = thread::join_mut(
+        rt,
+        &mut || file.read_exact_at(front, from).is_ok(),
+        &mut here,
+    );
+    front && back
+}
+
+// Reads a file of this length in parts, each in one of so many threads. Returns `None` if a part cannot be read, if the file turns out to
+// be shorter or longer, or if memory runs out.
+fn read_parts<R: Threads>(
+    rt: &R,
+    alloc: Global,
+    file: &File,
+    length: u64,
+    threads: usize,
+) -> Option<Vec<u8>> {
+    let mut bytes = vec![in alloc; 0; length as usize].ok()?;
+    let is_whole = fill(rt, file, threads, 0, &mut bytes)
+        && matches!(file.read_at(&mut [0], length), Ok(0))
+        && length_of(file) == length;
+    is_whole.then_some(bytes)
+}
+
+// Reads the file at a path, in so many threads if it is large. If that fails, it is read from its start in this thread alone.
+fn read_by<R: Threads>(
+    rt: &R,
+    host: HostRuntime,
+    threads: usize,
+    path: &str,
+) -> Result<Vec<u8>, StoreFault> {
+    let mut file = File::open(&host, path)?;
+    let length = length_of(&file);
+    if length >= LEAST_IN_PARTS && threads > 1 {
+        if let Some(bytes) = read_parts(rt, host.alloc(), &file, length, threads) {
+            return Ok(bytes);
+        }
+    }
+    read_whole(host.alloc(), &mut file, length)
+}
+
+// Reads the file at a path.
+fn read_file(host: HostRuntime, path: &str) -> Result<Vec<u8>, StoreFault> {
+    let mut file = File::open(&host, path)?;
+    let length = length_of(&file);
+    read_whole(host.alloc(), &mut file, length)
+}
+
+// Reads the file of each path into its place, one after another.
+fn read_in_turn(host: HostRuntime, paths: &[String], files: &mut [Result<Vec<u8>, StoreFault>])
+    requires { length files.old ≡ length paths.now }
+    ensures { length files.new ≡ length paths.now }
+{
+    for place in 0..paths.len() {
+        files[place] = read_file(host, &paths[place]);
+    }
+}
+
+// Reads the file of each path into its place, one after another, a large one in so many threads.
+fn read_here<R: Threads>(
+    rt: &R,
+    host: HostRuntime,
+    threads: usize,
+    paths: &[String],
+    files: &mut [Result<Vec<u8>, StoreFault>],
+)
+    requires { length files.old ≡ length paths.now }
+    ensures { length files.new ≡ length paths.now }
+{
+    for place in 0..paths.len() {
+        files[place] = read_by(rt, host, threads, &paths[place]);
+    }
+}
+
+// Reads the file of each path into its place, in so many readers, this thread among them. Each reads about as many as the others. This
+// thread reads the first of them, and a large one of these in `threads` threads.
+#[cycle(reading)]
+fn read_among<R: Threads>(
+    rt: &R,
+    host: HostRuntime,
+    readers: usize,
+    threads: usize,
+    paths: &[String],
+    files: &mut [Result<Vec<u8>, StoreFault>],
+)
+    requires { length files.old ≡ length paths.now }
+    ensures { length files.new ≡ length paths.now }
+{
+    if readers < 2 {
+        read_here(rt, host, threads, paths, files);
+        return;
+    }
+    let share = paths.len() - paths.len() / readers;
+    let (first, rest) = paths.split_at(share);
+    let (front, back) = files.split_at_mut(share);
+    let mut here = ||
+        requires { (1 < readers) × (length front.now ≡ length first.now) }
+        ensures { length front.exit.now ≡ length first.entry.now }
+    { read_among(rt, host, readers - 1, threads, first, front) };
+    thread::join_mut(rt, &mut || read_in_turn(host, rest, back), &mut here);
+}
+
+// Returns a place for each path. What is in it says that no file was read yet.
+fn places_for(
+    alloc: Global,
+    paths: &[String],
+) -> Result<Vec<Result<Vec<u8>, StoreFault>>, (usize, StoreFault)>
+    ensures places { IfOk result (λ files. length files.items ≡ length paths.now) }
+    ensures place { IfErr result (λ refused. refused.0 < length paths.now) }
+{
+    let mut files = Vec::new(alloc);
+    for place in 0..paths.len() {
+        if files.push(Err(StoreFault::Refused)).is_err() {
+            return Err((place, StoreFault::OutOfMemory));
+        }
+    }
+    Ok(files)
+}
+
+// Collects the files that were read. Returns the place of the first that was not, and why.
+fn all_read(
+    alloc: Global,
+    files: Vec<Result<Vec<u8>, StoreFault>>,
+) -> Result<Vec<Vec<u8>>, (usize, StoreFault)>
+    ensures files { IfOk result (λ read. files.items ≡ map Ok read.items) }
+    ensures place { IfErr result (λ refused. refused.0 < length files.items) }
+{
+    let mut read = Vec::new(alloc);
+    for file in files {
+        let place = read.len();
+        let bytes = match file {
+            Ok(bytes) => bytes,
+            Err(fault) => return Err((place, fault)),
+        };
+        if read.push(bytes).is_err() {
+            return Err((place, StoreFault::OutOfMemory));
+        }
+    }
+    Ok(read)
+}
+
+impl<R: Threads> Store for Disk<'_, R> {
+    type Writer = File;
 
     // no contract says what a file of the system holds
     ghost did = { λ _ _ _. ⊤ };
@@ -115,43 +282,53 @@ impl<R: Files + AllocGlobal + Clone + Drop> Store for Disk<'_, R> {
     ghost did_both = { λ _ _ _ _ _ _ _. tt };
 
     fn read_dir(&self, path: &str) -> Result<Vec<String>, StoreFault> {
-        let alloc = self.rt.alloc();
-        let entries = fs::read_dir(self.rt, path)?;
+        let alloc = self.host.alloc();
+        let entries = fs::read_dir(&self.host, path)?;
         names_of(alloc, entries.map(|entry| name_of(alloc, entry)))
     }
 
     fn read(&self, path: &str) -> Result<Vec<u8>, StoreFault> {
-        let mut file = File::open(self.rt, path)?;
-        let length = length_of(&file);
-        read_whole(self.rt.alloc(), &mut file, length)
+        read_by(self.rt, self.host, MOST_PARTS, path)
     }
 
-    fn create_new(&mut self, path: &str) -> Result<R::File, StoreFault> {
-        Ok(File::create_new(self.rt, path)?)
+    fn read_files(
+        &self,
+        alloc: Global,
+        paths: &[String],
+    ) -> Result<Vec<Vec<u8>>, (usize, StoreFault)> {
+        let mut files = places_for(alloc, paths)?;
+        let readers = paths.len().min(MOST_READERS);
+        let threads = (MOST_READERS + 1 - readers).min(MOST_PARTS);
+        read_among(self.rt, self.host, readers, threads, paths, &mut files);
+        all_read(alloc, files)
     }
 
-    fn write(&mut self, writer: &mut R::File, bytes: &[u8]) -> Result<(), StoreFault> {
+    fn create_new(&mut self, path: &str) -> Result<File, StoreFault> {
+        Ok(File::create_new(&self.host, path)?)
+    }
+
+    fn write(&mut self, writer: &mut File, bytes: &[u8]) -> Result<(), StoreFault> {
         Ok(writer.write_all(bytes)?)
     }
 
-    fn sync_file(&mut self, writer: &mut R::File) -> Result<(), StoreFault> {
+    fn sync_file(&mut self, writer: &mut File) -> Result<(), StoreFault> {
         Ok(writer.sync_all()?)
     }
 
     // a directory is opened for reading, as a file is
     fn sync_dir(&mut self, path: &str) -> Result<(), StoreFault> {
-        Ok(File::open(self.rt, path)?.sync_all()?)
+        Ok(File::open(&self.host, path)?.sync_all()?)
     }
 
     fn create_dir(&mut self, path: &str) -> Result<(), StoreFault> {
-        Ok(fs::create_dir(self.rt, path)?)
+        Ok(fs::create_dir(&self.host, path)?)
     }
 
     fn rename(&mut self, from: &str, to: &str) -> Result<(), StoreFault> {
-        Ok(fs::rename(self.rt, from, to)?)
+        Ok(fs::rename(&self.host, from, to)?)
     }
 
     fn remove_file(&mut self, path: &str) -> Result<(), StoreFault> {
-        Ok(fs::remove_file(self.rt, path)?)
+        Ok(fs::remove_file(&self.host, path)?)
     }
 }

@@ -1,13 +1,14 @@
 //! What the program asks of a file system.
 
-ghost use Rattle.std.specs.Prelude.{◌≡◌, ◌↔◌, ℕ, List, [], ◌++◌, IfOk, map, string_bytes};
+ghost use Rattle.std.specs.Prelude.{◌≡◌, ◌↔◌, ℕ, ◌<◌, List, [], ◌++◌, IfErr, IfOk, length, map, string_bytes};
+ghost use Rattle.std.specs.List.{AllZip};
 ghost use Rattle.std.specs.IoError.{error_kind};
 ghost use Rattle.std.specs.declared.io.ErrorKind.TheVariants as kind;
 ghost use Rattle.prom_store.specs.Calls.{Call, Called, Create, CreateDir, Remove, Rename, SyncDir, SyncFile, Write};
 ghost use Rattle.prom_store.specs.Found.{Bytes, Found, Names};
 ghost use Rattle.prom_store.specs.declared.store.StoreFault.TheVariants.{OutOfMemory};
 
-use std::alloc::{AllocError, AllocFailed};
+use std::alloc::{AllocError, AllocFailed, Global};
 use std::io;
 use std::io::ErrorKind;
 
@@ -69,6 +70,28 @@ pub trait Store {
     /// Reads all bytes of a file.
     fn read(&self, path: &str) -> Result<Vec<u8>, StoreFault>
         ensures { IfOk result (λ bytes. holds self.now path.now (Bytes bytes.items)) };
+
+    /// Reads all bytes of each of these files. Returns the place of the first that cannot be read, and why.
+    fn read_files(
+        &self,
+        alloc: Global,
+        paths: &[String],
+    ) -> Result<Vec<Vec<u8>>, (usize, StoreFault)>
+        ensures files { IfOk result (λ files. AllZip (λ path bytes. holds self.now (string_bytes path) (Bytes bytes.items)) paths.now files.items) }
+        ensures place { IfErr result (λ refused. refused.0 < length paths.now) }
+    {
+        let mut files = Vec::new(alloc);
+        for place in 0..paths.len() {
+            let bytes = match self.read(&paths[place]) {
+                Ok(bytes) => bytes,
+                Err(fault) => return Err((place, fault)),
+            };
+            if files.push(bytes).is_err() {
+                return Err((place, StoreFault::OutOfMemory));
+            }
+        }
+        Ok(files)
+    }
 
     /// Creates a file. Returns an error if the path exists.
     fn create_new(&mut self, path: &str) -> Result<Self::Writer, StoreFault>
