@@ -12,12 +12,16 @@ pub mod Whole
 pub mod Resolving
 pub mod ResolvingValid
 pub mod SpreadRecords
+pub mod Linking
 pub mod Assembling
 pub mod OneContent
 pub mod Truncating
 pub mod RoomLemmas
 pub mod RoomCounts
 pub mod Slots
+pub mod Windows
+pub mod SpreadAhead
+pub mod BindingAhead
 pub mod Applied
 pub mod AppliedValues
 pub mod AppliedOutcomes

@@ -1,6 +1,6 @@
 -- What a resolver shows, with one entry and with one record more, and when it is full.
 use Rattle.std.proofs.Common.{◌≡◌, ℕ, ◌+◌, ◌<◌, ◌≤◌, ◌⊎◌, inl, inr, List, [], ◌∷◌, ◌++◌, Some, None, Option, ap, sym, subst, ◌∙◌, refl, arith, append_assoc, length, take, drop, get_or}
-use Rattle.std.specs.Prelude.{map, count_by, slice_get, if◌then◌else◌}
+use Rattle.std.specs.Prelude.{map, slice_get, if◌then◌else◌}
 use Rattle.std.specs.List.{flat_map}
 use Rattle.std.specs.Option.{option_and_then, option_to_list}
 use Rattle.std.proofs.lemmas.List.{take-append-drop, take_more, drop_more, map-append}
@@ -44,7 +44,7 @@ told_alone n empty_stone = 0
 told_alone n unknown_stone = n unknown_stone
 
 -- the counts with an entry of this fate
-abbrev with_told : Fate → Counts → Counts
+abbrev pub with_told : Fate → Counts → Counts
 with_told bound c = with_fate bound c
 with_told accepted c = c
 with_told stale c = c
@@ -62,17 +62,17 @@ with_told_is base n hides = refl
 with_told_is base n empty_stone = refl
 with_told_is base n unknown_stone = refl
 
-told_more : (base : Counts) (es : List Entry) (e : Entry) → counts_at base (told_alone (tally (es ++ e ∷ []))) ≡ with_told (fate_at es e) (counts_at base (told_alone (tally es)))
+pub told_more : (base : Counts) (es : List Entry) (e : Entry) → counts_at base (told_alone (tally (es ++ e ∷ []))) ≡ with_told (fate_at es e) (counts_at base (told_alone (tally es)))
 told_more base es e = ap (λ n. counts_at base (told_alone n)) (tally_more es e) ∙ with_told_is base (tally es) (fate_at es e)
 
 -- an outcome is told by a column
-by_column : (o : Outcome) (c : Counts) → with_told (fate_of o) c ≡ c
+pub by_column : (o : Outcome) (c : Counts) → with_told (fate_of o) c ≡ c
 by_column outcome.Accepted c = refl
 by_column outcome.Stale c = refl
 by_column outcome.Hidden c = refl
 by_column outcome.EmptyStone c = refl
 
-by_none : (i : Item) (c : Counts) → with_told (unknown_fate i) c ≡ with_fate (unknown_fate i) c
+pub by_none : (i : Item) (c : Counts) → with_told (unknown_fate i) c ≡ with_fate (unknown_fate i) c
 by_none (item.Sample s) c = refl
 by_none (item.Stone r) c = refl
 

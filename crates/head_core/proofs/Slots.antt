@@ -21,7 +21,7 @@ use Rattle.head_core.proofs.Lists.{AreApart, AreApart-distinct, not_at, same_sym
 use Rattle.head_core.proofs.Limits.{later_series, series_split}
 
 -- a place is the same where more stands behind
-place_front : {A : Type 0} (p : A → Bool) (xs ys : List A) → list_any p xs ≡ true → place p (xs ++ ys) ≡ place p xs
+pub place_front : {A : Type 0} (p : A → Bool) (xs ys : List A) → list_any p xs ≡ true → place p (xs ++ ys) ≡ place p xs
 place_front p [] ys h = cc
 place_front p (x ∷ xs) ys h = at (p x) h (place_front p xs ys) where
   at : (b : Bool) → (b || list_any p xs) ≡ true → (list_any p xs ≡ true → place p (xs ++ ys) ≡ place p xs)

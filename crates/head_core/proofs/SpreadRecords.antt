@@ -32,11 +32,11 @@ use Rattle.head_core.proofs.Whole.{taken_nothing, taken_with-push}
 
 -- ---- sums of counts
 
-plus_none : (c : Counts) → plus c no_counts ≡ c
+pub plus_none : (c : Counts) → plus c no_counts ≡ c
 plus_none c = simp add-zero
 
 -- one more of a kind is one more in the sum
-plus_fate : (f : Fate) (c d : Counts) → with_fate f (plus c d) ≡ plus c (with_fate f d)
+pub plus_fate : (f : Fate) (c d : Counts) → with_fate f (plus c d) ≡ plus c (with_fate f d)
 plus_fate bound c d = ap (λ n. record (plus c d) { series_entries = n }) (add_assoc c.series_entries d.series_entries 1)
 plus_fate accepted c d = ap (λ n. record (plus c d) { accepted = n }) (add_assoc c.accepted d.accepted 1)
 plus_fate stale c d = ap (λ n. record (plus c d) { stale = n }) (add_assoc c.stale d.stale 1)
@@ -45,20 +45,20 @@ plus_fate hides c d = ap (λ n. record (plus c d) { hiding = n }) (add_assoc c.h
 plus_fate empty_stone c d = ap (λ n. record (plus c d) { empty_stones = n }) (add_assoc c.empty_stones d.empty_stones 1)
 plus_fate unknown_stone c d = ap (λ n. record (plus c d) { unknown_stones = n }) (add_assoc c.unknown_stones d.unknown_stones 1)
 
-plus_record : (r : WalRecord) (c d : Counts) → with_record r (plus c d) ≡ plus c (with_record r d)
+pub plus_record : (r : WalRecord) (c d : Counts) → with_record r (plus c d) ≡ plus c (with_record r d)
 plus_record (Series es) c d = ap (λ n. record (plus c d) { series_records = n }) (add_assoc c.series_records d.series_records 1)
 plus_record (Samples ss) c d = ap (λ n. record (plus c d) { sample_records = n }) (add_assoc c.sample_records d.sample_records 1)
 plus_record (Stones ds) c d = ap (λ n. record (plus c d) { stone_records = n }) (add_assoc c.stone_records d.stone_records 1)
 plus_record (Other kind) c d = ap (λ n. record (plus c d) { skipped_records = n }) (add_assoc c.skipped_records d.skipped_records 1)
 
-plus_expired : (m : ℤ) (r : WalRecord) (c d : Counts) → with_expired m r (plus c d) ≡ plus c (with_expired m r d)
+pub plus_expired : (m : ℤ) (r : WalRecord) (c d : Counts) → with_expired m r (plus c d) ≡ plus c (with_expired m r d)
 plus_expired m r c d =
     let a = expired_samples m (r ∷ []) in
     let b = expired_stones m (r ∷ []) in
     ap (λ n. record (plus c d) { expired_samples = n; expired_stones = (c.expired_stones + d.expired_stones) + b }) (add_assoc c.expired_samples d.expired_samples a)
     ∙ ap (λ n. record (plus c d) { expired_samples = c.expired_samples + (d.expired_samples + a); expired_stones = n }) (add_assoc c.expired_stones d.expired_stones b)
 
-plus_item : (o : Option ℕ) (i : Item) (c d : Counts) → with_item o i (plus c d) ≡ plus c (with_item o i d)
+pub plus_item : (o : Option ℕ) (i : Item) (c d : Counts) → with_item o i (plus c d) ≡ plus c (with_item o i d)
 plus_item None i c d = plus_fate (unknown_fate i) c d
 plus_item (Some s) i c d = refl
 
@@ -90,7 +90,7 @@ module _ (t : Table) where
 -- ---- limits
 
 -- where sums are within the limits, so are the counts that are summed
-within_sum : (c d : Counts) → AreCountsWithin (plus c d) → AreCountsWithin c × AreCountsWithin d
+pub within_sum : (c d : Counts) → AreCountsWithin (plus c d) → AreCountsWithin c × AreCountsWithin d
 within_sum c d w = (
   record {
     series_records = omega arith;

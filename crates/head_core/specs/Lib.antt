@@ -7,6 +7,9 @@ pub mod Resolved
 pub mod Validity
 pub mod Resolving
 pub mod Spreading
+pub mod Changes
+pub mod Links
+pub mod Ahead
 pub mod Applied
 pub mod Heads
 pub mod Room

@@ -233,6 +233,17 @@ impl Counts {
         Ok(())
     }
 
+    // Adds a number of series entries to their count.
+    pub(crate) fn add_bound(&mut self, many: usize) -> Result<(), HeadFault>
+        ensures more { OnOk result (self.new ≡ record self.old { series_entries = self.old.series_entries + many }) }
+        ensures full { result ≡ Err HeadFault.Full → count_limit < self.old.series_entries + many }
+        ensures fault { result ≡ Err HeadFault.Memory → ⊥ }
+        ensures sound { result ≡ Err HeadFault.Failed → ⊥ }
+    {
+        self.series_entries = sum(self.series_entries, many as u64)?;
+        Ok(())
+    }
+
     // Adds 1 to the count of items whose reference has no owner.
     pub(crate) fn add_unknown(&mut self, item: &Item) -> Result<(), HeadFault>
         ensures more { OnOk result (self.new ≡ with_fate (unknown_fate item.now) self.old) }

@@ -1,6 +1,6 @@
 //! Items of entries, and lists of them.
 
-ghost use Rattle.std.specs.Prelude.{◌≡◌, ◌<◌, ◌≤◌, ◌++◌, ◌∷◌, [], Err, Some, None, count_by, length, IfOk, IsOk, OnOk};
+ghost use Rattle.std.specs.Prelude.{◌≡◌, ◌<◌, ◌≤◌, ◌++◌, ◌∷◌, [], Err, Some, None, count_by, length, IfOk, IfSome, IsOk, OnOk};
 ghost use Rattle.std.specs.List.{flat_map};
 ghost use Rattle.std.specs.Option.{option_to_list};
 ghost use Rattle.std.specs.Vec.{vec_capacity};
@@ -10,6 +10,7 @@ ghost use Rattle.head_core.specs.Content.{AreCountsWithin};
 ghost use Rattle.head_core.specs.Counts.{sample_item, stone_item};
 ghost use Rattle.head_core.specs.Resolving.{items_by, IsResolving, IsStopped, IsStoppedIn, Resolves};
 ghost use Rattle.head_core.specs.Spreading.{with_entries};
+ghost use Rattle.head_core.specs.Ahead.{AreItem};
 ghost use Rattle.head_core.specs.Validity.{is_expired};
 
 use crate::counts::Counts;
@@ -28,6 +29,11 @@ pub(crate) trait ItemEntry {
     // Returns whether it is expired.
     fn is_expired(&self, min_valid: i64) -> bool
         ensures { result ≡ is_expired min_valid (entry self.now) };
+
+    // Returns its reference and the item of what the least valid time leaves of it, or `None` if it is expired.
+    fn valid_item(&self, min_valid: i64) -> Option<(u64, Item)>
+        ensures none { result ≡ None → valid_entry min_valid (entry self.now) ≡ [] }
+        ensures some { IfSome result (λ found. AreItem (valid_entry min_valid (entry self.now)) found.0 found.1) };
 
     // Returns its item with the slot of its reference's owner, or counts it as unknown and returns `None`.
     fn find(&self, resolver: &mut Resolver) -> Result<Option<(Slot, Item)>, HeadFault>
@@ -74,6 +80,13 @@ impl ItemEntry for SampleEntry {
         self.time < min_valid
     }
 
+    fn valid_item(&self, min_valid: i64) -> Option<(u64, Item)> {
+        if self.is_expired(min_valid) {
+            return None;
+        }
+        Some((self.reference, item_of_sample(self)))
+    }
+
     fn find(&self, resolver: &mut Resolver) -> Result<Option<(Slot, Item)>, HeadFault> {
         resolver.find_owner(self.reference, item_of_sample(self))
     }
@@ -108,6 +121,13 @@ impl ItemEntry for StoneEntry {
 
     fn is_expired(&self, min_valid: i64) -> bool {
         self.max_time < min_valid
+    }
+
+    fn valid_item(&self, min_valid: i64) -> Option<(u64, Item)> {
+        if self.is_expired(min_valid) {
+            return None;
+        }
+        Some((self.reference, item_of_stone(&raised(self, min_valid))))
     }
 
     fn find(&self, resolver: &mut Resolver) -> Result<Option<(Slot, Item)>, HeadFault> {

@@ -5,6 +5,8 @@
 //! it. Where the columns are built elsewhere, a `Resolver` finds the series of each item, and `Head::assemble` makes the head.
 #![tactic(auto)]
 
+mod ahead;
+mod changes;
 mod counts;
 mod draft;
 mod entries;
@@ -21,6 +23,7 @@ mod resolver;
 mod spreading;
 mod views;
 
+pub use changes::Changes;
 pub use counts::Counts;
 pub use fault::HeadFault;
 pub use head::Head;
@@ -28,7 +31,7 @@ pub use head_column::{Chunk, Column, Hour, Item, Outcome, Run, Sample};
 pub use head_series::Slot;
 pub use laws::{
     alike_answers, checkpoint, items_make_series, limits_hold_before, one_content, slots_stay,
-    spread_records, truncation,
+    spread_ahead, spread_records, truncation,
 };
 pub use postings::postings_of;
 pub use replay::{ReplayFault, Replayed, replay_serial, replay_serial_from};

@@ -37,7 +37,11 @@ pub fn binds_any(log_record: &WalRecord) -> bool
 
 impl Resolver {
     // Counts a record by its type, and its expired entries.
-    fn count_in(&self, log_record: &WalRecord, counts: &mut Counts) -> Result<(), HeadFault>
+    pub(crate) fn count_in(
+        &self,
+        log_record: &WalRecord,
+        counts: &mut Counts,
+    ) -> Result<(), HeadFault>
         ensures more { OnOk result (counts.new ≡ with_expired self.now.min_valid log_record.now (with_record log_record.now counts.old)) }
         ensures full { result ≡ Err HeadFault.Full → AreCountsWithin (with_expired self.now.min_valid log_record.now (with_record log_record.now counts.old)) → ⊥ }
         ensures fault { result ≡ Err HeadFault.Failed → ⊥ }
