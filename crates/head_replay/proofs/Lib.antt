@@ -1,3 +1,4 @@
+pub mod Ahead
 pub mod Counted
 pub mod Ending
 pub mod Growing

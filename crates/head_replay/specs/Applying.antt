@@ -1,5 +1,6 @@
 -- Items dealt to workers.
-use Rattle.std.specs.Prelude.{◌≡◌, ◌++◌, ℕ, ℤ, List, false, length}
+use Rattle.std.specs.Prelude.{◌≡◌, ◌++◌, ◌<◌, ◌^◌, ℕ, ℤ, List, [], false, length, replicate}
+use Rattle.std.specs.List.{enumerate_from}
 use Rattle.wal_record.specs.declared.record.WalRecord.{WalRecord}
 use Rattle.wal_record.specs.Entries.{entries_of}
 use Rattle.wal_record.specs.Validity.{valid}
@@ -8,6 +9,8 @@ use Rattle.head_column.specs.declared.items.Item.{Item}
 use Rattle.head_column.specs.declared.items.Outcome.{Outcome}
 use Rattle.head_core.specs.declared.counts.Counts.{Counts}
 use Rattle.head_core.specs.Taken.{taken_of}
+use Rattle.head_core.specs.Changes.{AreBelow, Change}
+use Rattle.head_core.specs.Ahead.{IsAhead}
 use Rattle.head_core.specs.Resolved.{ResolverValue, IsResolved, IsResolvable, resolved}
 use Rattle.head_core.specs.Applied.{values_after, outcomes_after, new_slots, AreCountsOfOutcomes}
 
@@ -35,3 +38,17 @@ pub record IsBuilt {B V : Type 0} (value : B → V) (after : V → Item → V) (
   pub limits : IsResolvable (taken_of m rs)
   pub slots : length d.builders ≡ length r.table.series
   pub ends : Ends value after outcome (new_slots new (entries_of (valid m rs))) (resolved (entries_of (valid m rs))) d c
+
+-- The resolver has what the records rs say with the least valid time m, and a window of records behind them: those in `front` were taken too,
+-- and of those in `back` only the bindings were made, with these changes. The deal has a slot for each series, and ends with what the valid
+-- items of the records that were taken make of new slots.
+pub record IsBuiltAhead {B V : Type 0} (value : B → V) (after : V → Item → V) (outcome : V → Item →
+    Outcome) (new : V) (m : ℤ) (rs front back : List WalRecord) (cs : List Change) (r : ResolverValue) (d : Dealing B Item Outcome) (c : Counts) : Type 0 where
+  pub time : r.min_valid ≡ m
+  pub ahead : IsAhead (taken_of m rs) front back cs r
+  pub sound : r.failed ≡ false
+  pub limits : back ≡ [] → IsResolvable (taken_of m (rs ++ front))
+  pub below : AreBelow (length r.table.series) cs
+  pub few : length r.table.series < 2 ^ 32
+  pub slots : length d.builders ≡ length r.table.series
+  pub ends : Ends value after outcome (enumerate_from 0 (replicate (length r.table.series) new)) (resolved (entries_of (valid m (rs ++ front)))) d c

@@ -1,16 +1,18 @@
-//! Spreading by workers: each resolves the records of some pages, which bind no reference, by the table as it is, and keeps their items in
-//! a list for each worker of a deal.
+//! Spreading by workers: each resolves the records of some pages of a window, whose bindings were all made ahead, and keeps their items in a
+//! list for each worker of a deal.
 
-ghost use Rattle.std.specs.Prelude.{◌≡◌, ◌<◌, ◌≤◌, ◌++◌, IfOk, OnOk, List, false, length, map, vec_len};
-ghost use Rattle.std.specs.List.{AllByRecursion, flat_map};
+ghost use Rattle.std.specs.Prelude.{◌≡◌, ◌<◌, ◌≤◌, ◌+◌, ◌++◌, ℕ, IfOk, OnOk, List, false, length, map};
+ghost use Rattle.std.proofs.Props.{props};
 ghost use Rattle.wal_record.specs.declared.record.WalRecord.{WalRecord as LogRecord};
 ghost use Rattle.wal_log.specs.Log.{contents};
-ghost use Rattle.head_core.specs.Spreading.{AreSpread};
-ghost use Rattle.head_replay.specs.Records.{AreQuiet, records_of};
+ghost use Rattle.head_series.specs.Table.{slot_at};
+ghost use Rattle.head_core.specs.Ahead.{AreSpreadAt};
+ghost use Rattle.head_core.specs.Changes.{slot_before, AreBelow};
+ghost use Rattle.head_replay.specs.Records.{records_of};
 ghost use Rattle.head_replay.specs.Windows.{IsFresh};
 
 use head_column::Item;
-use head_core::{Counts, Resolver};
+use head_core::{Changes, Counts, Resolver};
 use head_crew::{Gate, Job};
 use head_deal::{Seats, Spare, Spread};
 use std::alloc::{AllocError, Global};
@@ -46,63 +48,83 @@ impl Spreading {
         })
     }
 
-    // Adds the records of a page. Returns an error if out of memory.
+    // Adds the records of a page, the first of which is at a place of the window, and returns the place behind them. Returns an error if
+    // out of memory.
     fn add_page(
         &mut self,
         alloc: Global,
         resolver: &Resolver,
+        changes: &Changes,
         seats: &Seats<'_>,
+        place: u64,
         records: Items<Placed>,
-    ) -> Result<(), AllocError>
+    ) -> Result<u64, AllocError>
         requires sound { resolver.now.failed ≡ false }
         requires slots { length resolver.now.table.series ≤ seats.now.slots }
+        requires below { AreBelow seats.now.slots changes.now }
         requires workers { seats.now.workers ≡ self.old.spread.workers }
-        ensures spread { AreQuiet records → (rs : List LogRecord) → AreSpread resolver.now.min_valid resolver.now.table rs self.old.spread.items self.old.counts →
-            OnOk result (AreSpread resolver.now.min_valid resolver.now.table (rs ++ contents records) self.new.spread.items self.new.counts) }
+        ensures spread { (first : ℕ) (rs : List LogRecord) → AreSpreadAt resolver.now.min_valid (slot_before changes.now (slot_at resolver.now.table)) first rs self.old.spread.items self.old.counts →
+            place ≡ first + length rs → OnOk result (AreSpreadAt resolver.now.min_valid (slot_before changes.now (slot_at resolver.now.table)) first (rs ++ contents records) self.new.spread.items self.new.counts) }
+        ensures place { IfOk result (λ behind. behind ≡ place + length records) }
         ensures workers { self.new.spread.workers ≡ self.old.spread.workers }
     {
+        let mut place = place;
         for placed in records.into_vec() {
+            let record = &placed.content;
             // a count of entries that are in memory is below its limit
-            let Ok(()) = resolver.spread(&placed.content, seats, &mut self.spread, &mut self.counts)
-            else {
+            let Ok(()) = resolver.spread_at(
+                record,
+                place,
+                changes,
+                seats,
+                &mut self.spread,
+                &mut self.counts,
+            ) else {
                 return Err(AllocError);
             };
+            place = place.checked_add(1).ok_or(AllocError)?;
             self.room.keep(alloc, placed.content);
         }
-        Ok(())
+        Ok(place)
     }
 
-    // Adds the records of more pages. Returns an error if out of memory.
+    // Adds the records of more pages, as `add_page` does. Returns an error if out of memory.
     fn add_pages(
         &mut self,
         alloc: Global,
         resolver: &Resolver,
+        changes: &Changes,
         seats: &Seats<'_>,
+        place: u64,
         pages: Vec<Items<Placed>>,
     ) -> Result<(), AllocError>
         requires sound { resolver.now.failed ≡ false }
         requires slots { length resolver.now.table.series ≤ seats.now.slots }
+        requires below { AreBelow seats.now.slots changes.now }
         requires workers { seats.now.workers ≡ self.old.spread.workers }
-        ensures spread { AllByRecursion AreQuiet pages.items → (rs : List LogRecord) → AreSpread resolver.now.min_valid resolver.now.table rs self.old.spread.items self.old.counts →
-            OnOk result (AreSpread resolver.now.min_valid resolver.now.table (rs ++ contents (records_of pages.items)) self.new.spread.items self.new.counts) }
+        ensures spread { (first : ℕ) (rs : List LogRecord) → AreSpreadAt resolver.now.min_valid (slot_before changes.now (slot_at resolver.now.table)) first rs self.old.spread.items self.old.counts →
+            place ≡ first + length rs → OnOk result (AreSpreadAt resolver.now.min_valid (slot_before changes.now (slot_at resolver.now.table)) first (rs ++ contents (records_of pages.items)) self.new.spread.items self.new.counts) }
         ensures workers { self.new.spread.workers ≡ self.old.spread.workers }
     {
+        let mut place = place;
         for records in pages {
-            self.add_page(alloc, resolver, seats, records)?;
+            place = self.add_page(alloc, resolver, changes, seats, place, records)?;
         }
         Ok(())
     }
 }
 
-/// The job of one worker: pages of records, and what those before them made.
+/// The job of one worker: pages of records, the place in the window of the first of them, and what those before them made.
 #[derive(Drop)]
 pub(crate) struct SpreadJob<'t> {
     alloc: Global,
     resolver: &'t Resolver,
+    changes: &'t Changes,
     seats: &'t Seats<'t>,
+    place: u64,
     pages: Vec<Items<Placed>>,
     made: Spreading,
-    ghost ready: { (resolver.now.failed ≡ false) × (length resolver.now.table.series ≤ seats.now.slots) × (seats.now.workers ≡ made.spread.workers) },
+    ghost ready: { (resolver.now.failed ≡ false) × (length resolver.now.table.series ≤ seats.now.slots) × AreBelow seats.now.slots changes.now × (seats.now.workers ≡ made.spread.workers) } by { Prim.hlevel props },
 }
 
 impl<'t> Job for SpreadJob<'t> {
@@ -114,58 +136,43 @@ impl<'t> Job for SpreadJob<'t> {
 
     fn finish(&mut self) -> Result<(), AllocError> {
         let pages = mem::replace(&mut self.pages, Vec::new(self.alloc));
-        self.made
-            .add_pages(self.alloc, self.resolver, self.seats, pages)
+        self.made.add_pages(
+            self.alloc,
+            self.resolver,
+            self.changes,
+            self.seats,
+            self.place,
+            pages,
+        )
     }
 }
 
-fn new_job<'t>(
+/// Returns a job that has spread nothing.
+pub(crate) fn new_job<'t>(
     alloc: Global,
     resolver: &'t Resolver,
+    changes: &'t Changes,
     seats: &'t Seats<'t>,
     spare: Option<Spare<Item>>,
+    place: u64,
     pages: Vec<Items<Placed>>,
 ) -> Result<SpreadJob<'t>, AllocError>
     requires sound { resolver.now.failed ≡ false }
     requires slots { length resolver.now.table.series ≤ seats.now.slots }
-    ensures fresh { IfOk result (λ job. (job.resolver.now ≡ resolver.now) × IsFresh seats.now.workers job.made) }
+    requires below { AreBelow seats.now.slots changes.now }
+    ensures fresh { IfOk result (λ job. (job.resolver.now ≡ resolver.now) × (job.changes.now ≡ changes.now) × IsFresh seats.now.workers job.made) }
+    ensures place { IfOk result (λ job. job.place ≡ place) }
     ensures pages { IfOk result (λ job. job.pages.items ≡ pages.items) }
 {
     Ok(SpreadJob {
         alloc,
         resolver,
+        changes,
         seats,
+        place,
         pages,
         made: Spreading::new(alloc, seats, spare)?,
     })
-}
-
-/// Makes a job for each worker, and shares the pages out among them, in order. Their lists are made of the spare ones, if there are any.
-pub(crate) fn spread_jobs<'t>(
-    alloc: Global,
-    resolver: &'t Resolver,
-    seats: &'t Seats<'t>,
-    mut spares: Vec<Spare<Item>>,
-    pages: Vec<Items<Placed>>,
-) -> Result<Vec<SpreadJob<'t>>, AllocError>
-    requires some { 0 < seats.now.workers }
-    requires sound { resolver.now.failed ≡ false }
-    requires slots { length resolver.now.table.series ≤ seats.now.slots }
-    ensures count { IfOk result (λ jobs. vec_len jobs ≡ seats.now.workers) }
-    ensures fresh { IfOk result (λ jobs. AllByRecursion (λ job. (job.resolver.now ≡ resolver.now) × IsFresh seats.now.workers job.made) jobs.items) }
-    ensures pages { IfOk result (λ jobs. flat_map (λ job. job.pages.items) jobs.items ≡ pages.items) }
-{
-    let workers = seats.workers();
-    let each = pages.len().div_ceil(workers);
-    let mut jobs = Vec::with_capacity(alloc, workers)?;
-    let mut rest = pages;
-    for _worker in 1..workers {
-        let behind = rest.split_off(each.min(rest.len()))?;
-        jobs.push(new_job(alloc, resolver, seats, spares.pop(), rest)?)?;
-        rest = behind;
-    }
-    jobs.push(new_job(alloc, resolver, seats, spares.pop(), rest)?)?;
-    Ok(jobs)
 }
 
 /// Returns what the records of each job made.
@@ -180,7 +187,9 @@ pub(crate) fn all_made(
         let SpreadJob {
             alloc: _,
             resolver: _,
+            changes: _,
             seats: _,
+            place: _,
             pages: _pages,
             made,
         } = job;

@@ -7,9 +7,9 @@ use Rattle.head_replay.proofs.Ending.{dealt_builders, dealt_workers, ends_all}
 use Rattle.head_replay.proofs.rounds.Rounds.deal_spread.Goals as goal
 
 pub returns-in_err-make_room-clause-full : goal.returns-in_err-make_room-clause-full
-returns-in_err-make_room-clause-full g c = λ e slots before all h k w.
+returns-in_err-make_room-clause-full g c = λ e slots before more all h k w.
     let full : c.make_room.result ≡ Err Full = search rules in
-    c.make_room.ensures.full full slots before c.args.spread.items all h k w
+    c.make_room.ensures.full full slots before (c.args.spread.items ++ more) all h k w
 
 pub deal_all-requires-clause-exist : goal.deal_all-requires-clause-exist
 deal_all-requires-clause-exist g c =
