@@ -327,10 +327,3 @@ spread_new {I} m rows some most long none =
       each = length-map rows (λ l. l.items) ∙ long;
       lists = λ k l low. (let r = row-there rows k l (omega arith) in r.1 ∙ none k r.0 low);
     }
-
--- the bound of a spread's slots
-all-below : {I : Type 0} (most more : ℕ) (items : List (ℕ × I)) → most ≤ more → All (λ p. p.0 < most) items → All (λ p. p.0 < more) items
-all-below most more items low all k d under = (let a = all k d under in omega arith)
-
-pub all-below-put : {I : Type 0} (most more slot : ℕ) (item : I) (items : List (ℕ × I)) → most ≤ more → slot < more → All (λ p. p.0 < most) items → All (λ p. p.0 < more) (items ++ (slot, item) ∷ [])
-all-below-put most more slot item items low under all = all-append (λ p. p.0 < more) items ((slot, item) ∷ []) (all-below most more items low all) (all-push-front (λ p. p.0 < more) (slot, item) [] under (λ k d none. absurd (omega arith)))

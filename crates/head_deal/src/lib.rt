@@ -29,7 +29,7 @@ pub use dealing::{AddFault, AddRefused, Deal, DealFault, DealRefused, deal_theor
 pub use joining::{JoinFault, JoinRefused, Joined, join_parts};
 pub use parts::{Part, run_part};
 pub use seats::Seats;
-pub use spreads::{Spare, Spread, spread_items};
+pub use spreads::{Spare, Spread};
 
 /// Something that is built item by item. By the clauses of `apply`, the value after an item and the item's outcome are functions of the
 /// value before and of the item.

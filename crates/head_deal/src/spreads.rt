@@ -1,6 +1,6 @@
 //! Spreads: items in lists for workers, before they are dealt.
 
-ghost use Rattle.std.specs.Prelude.{◌≡◌, ◌++◌, ◌∷◌, ◌<◌, ◌≤◌, ◌^◌, [], ℕ, All, length, min, true, IfOk, OnOk, OnErr, IfErr};
+ghost use Rattle.std.specs.Prelude.{◌≡◌, ◌++◌, ◌∷◌, ◌<◌, ◌^◌, [], ℕ, All, length, min, IfOk, OnOk, OnErr, IfErr};
 
 use crate::Builder;
 use crate::batches::empty_list;
@@ -16,12 +16,11 @@ use std::marker::Model;
 pub struct Spread<I> {
     pub(crate) workers: usize,
     pub(crate) count: usize,
-    pub(crate) bound: usize,
     pub(crate) lists: Vec<Vec<Due<I>>>,
 }
 
 impl<I> Model for Spread<I> {
-    ghost use Rattle.std.specs.Prelude.{◌<◌, ◌≤◌, ◌^◌, All, map};
+    ghost use Rattle.std.specs.Prelude.{◌≤◌, ◌^◌, map};
     ghost use Rattle.head_deal.specs.Spreads.{IsSpread, SpreadValue, spread_items};
 
     ghost Value = { SpreadValue I };
@@ -30,7 +29,7 @@ impl<I> Model for Spread<I> {
 
     ghost invariant = { λ s.
         IsSpread (record { workers = s.workers; items = spread_items s.workers s.count (map (λ l. l.items) s.lists.items) }) s.count (map (λ l. l.items) s.lists.items) ×
-        (s.count ≤ 2 ^ 32) × All (λ p. p.0 < s.bound) (spread_items s.workers s.count (map (λ l. l.items) s.lists.items)) };
+        (s.count ≤ 2 ^ 32) };
 }
 
 /// Emptied lists of items that are done. A spread that is made in their memory needs less of its own.
@@ -70,7 +69,6 @@ impl<I: Drop> Spread<I> {
         Ok(Spread {
             workers: seats.workers,
             count: 0,
-            bound: 0,
             lists,
         })
     }
@@ -80,13 +78,6 @@ impl<I: Drop> Spread<I> {
         ensures { result ≡ self.now.workers }
     {
         self.workers
-    }
-
-    /// Returns whether all items are for the first `slots` slots.
-    pub fn fits(&self, slots: usize) -> bool
-        ensures { result ≡ true → All (λ p. p.0 < slots) self.now.items }
-    {
-        self.bound <= slots
     }
 
     /// Adds an item for a slot, after the others. Returns the item as the error, with the spread unchanged, if out of memory or if there are
@@ -111,7 +102,6 @@ impl<I: Drop> Spread<I> {
         }) {
             Ok(()) => {
                 self.count += 1;
-                self.bound = self.bound.max(slot as usize + 1);
                 Ok(())
             }
             Err(failed) => Err(failed.value.item),
@@ -134,24 +124,6 @@ fn empty_lists<T: Drop>(
         lists.push(empty_list(alloc, &mut spare))?;
     }
     Ok(lists)
-}
-
-/// Returns a spread of items, each with its slot. Returns an error if out of memory, or if there are more than 2^32 items.
-pub fn spread_items<I: Drop>(
-    alloc: Global,
-    seats: &Seats<'_>,
-    items: Vec<(u32, I)>,
-) -> Result<Spread<I>, AllocError>
-    requires { All (λ p. p.0 < seats.now.slots) items.items }
-    ensures { IfOk result (λ s. s ≡ record { workers = seats.now.workers; items = items.items }) }
-{
-    let mut spread = Spread::new(alloc, seats)?;
-    for (slot, item) in items {
-        let Ok(()) = spread.put(seats, slot, item) else {
-            return Err(AllocError);
-        };
-    }
-    Ok(spread)
 }
 
 impl<B: Builder> Deal<B> {

@@ -7,7 +7,7 @@ invariant_of-result g c =
     let s = c.seats.inside in
     let each = c.in_ok-lists.ensures.each in
     let h = spread_new s.workers c.in_ok-lists.lists.items c.seats.invariant.0 c.seats.invariant.1 each (λ k v low. c.in_ok-lists.ensures.empty k v (omega arith)) in
-    (spread_view _ 0 _ h, omega arith, rw (spread_is _ 0 _ h) (λ k d none. absurd (omega arith)))
+    (spread_view _ 0 _ h, omega arith)
 
 pub returns : goal.returns
 returns g c =

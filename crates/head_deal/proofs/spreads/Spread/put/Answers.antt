@@ -1,7 +1,7 @@
 use Rattle.std.proofs.Common.{◌≡◌, ◌<◌, map, length, get_or, arith, ap, refl}
 use Rattle.head_deal.specs.declared.seats.Seat.{Seat}
 use Rattle.head_deal.specs.Spreads.{SpreadValue, spread_items}
-use Rattle.head_deal.proofs.Lists.{spread_is, spread_view, put-in, lists-kept, all-below-put}
+use Rattle.head_deal.proofs.Lists.{spread_is, spread_view, put-in, lists-kept}
 use Rattle.head_deal.proofs.spreads.Spread.put.Goals as goal
 
 pub invariant_of-self : goal.invariant_of-self
@@ -14,9 +14,7 @@ invariant_of-self g c =
     let low : c.args.slot < length seats.seats.now = rw (← c.seats.view_is) at c.requires.exists in
     let put = put-in old s.count c.args.slot c.args.item seats.workers seats.seats.now none s.lists.items c.index_mut-list.result.now c.push.new.self same c.seats.invariant.2 low c.index_mut-list.ensures.value c.in-Ok.ensures.items c.self.invariant.0 in
     let room = c.if-self-ge4294967296.false in
-    let most = c.max-self-inside.ensures in
-    let below = all-below-put s.bound c.max-self-inside.result c.args.slot c.args.item old.items (omega arith) (omega arith) c.self.invariant.2 in
-    (spread_view _ _ _ put, omega arith, rw (spread_is _ _ _ put) below)
+    (spread_view _ _ _ put, omega arith)
 
 pub invariant_of-self-in-Err : goal.invariant_of-self-in-Err
 invariant_of-self-in-Err g c =
