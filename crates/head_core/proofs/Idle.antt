@@ -11,7 +11,7 @@ use Rattle.head_core.specs.Room.{IsIdle, sets_of, targets, to_slot}
 use Rattle.head_core.specs.Draft.{Drafted, IsDraft, IsItemEntry, IsKept, slot_after, slots_behind}
 use Rattle.head_core.proofs.DraftLemmas.{bindings_append, bindings_push, item_targets}
 
-pub both_none : {A : Type 0} (xs ys : List A) → xs ++ ys ≡ [] → (xs ≡ []) × (ys ≡ [])
+both_none : {A : Type 0} (xs ys : List A) → xs ++ ys ≡ [] → (xs ≡ []) × (ys ≡ [])
 both_none [] ys e = (refl, e)
 both_none (x ∷ xs) ys e = cc
 

@@ -11,7 +11,8 @@ pub mod Binding
 pub mod Whole
 pub mod Resolving
 pub mod ResolvingValid
-pub mod SpreadRecords
+pub mod Records
+pub mod Sums
 pub mod Linking
 pub mod Assembling
 pub mod OneContent

@@ -50,7 +50,7 @@ pub stopped_one : (v : ResolverValue) (es : List Entry) (e : Entry) → es ≡ e
 stopped_one v es e is s = record { front = []; next = e; rest = []; items = []; middle = v; whole = is; read = none; stopped = s }
 
 -- some entries after others
-pub resolves_both : {v m w : ResolverValue} {es : List Entry} {xs : List (ℕ × Item)} (fs : List Entry) {ys : List (ℕ × Item)} → Resolves v es xs m → Resolves m fs ys w → Resolves v (es ++ fs) (xs ++ ys) w
+resolves_both : {v m w : ResolverValue} {es : List Entry} {xs : List (ℕ × Item)} (fs : List Entry) {ys : List (ℕ × Item)} → Resolves v es xs m → Resolves m fs ys w → Resolves v (es ++ fs) (xs ++ ys) w
 resolves_both {v} {m} {w} {es} {xs} fs a none = subst (λ gs. Resolves v gs (xs ++ []) m) (sym (append_none es)) (subst (λ (zs : List (ℕ × Item)). Resolves v es zs m) (sym (append_none xs)) a)
 resolves_both {v} {m} {w} {es} {xs} fs a (more gs zs k e us x t s) =
     subst (λ hs. Resolves v hs (xs ++ (zs ++ us)) x) (append_assoc es gs (e ∷ []))

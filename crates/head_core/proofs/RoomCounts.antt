@@ -1,5 +1,5 @@
 -- The counts of a head whose room was made beforehand, once a record is counted.
-use Rattle.std.proofs.Common.{◌≡◌, ℕ, ℤ, ◌+◌, ◌≤◌, Bool, List, [], ◌∷◌, ap, sym, subst, ◌∙◌, refl, arith, length, length-append}
+use Rattle.std.proofs.Common.{◌≡◌, ℤ, ◌+◌, ◌≤◌, Bool, List, [], ◌∷◌, ap, sym, subst, ◌∙◌, refl, arith, length, length-append}
 use Rattle.std.specs.Prelude.{count_by}
 use Rattle.std.proofs.lemmas.List.Sums.{count_by-le-length}
 use Rattle.hw_bytes.proofs.Lists.{append_none}

@@ -20,10 +20,9 @@ use Rattle.head_series.specs.Room as table_room
 use Rattle.head_postings.specs.Room as postings_room
 use Rattle.head_core.specs.declared.counts.Counts.{Counts}
 use Rattle.head_core.specs.Owners.{bindings}
-use Rattle.head_core.specs.Content.{Content}
 use Rattle.head_core.specs.Counts.{sample_item, stone_item, Fate, bound, accepted, stale, unknown, hides, empty_stone, unknown_stone}
 use Rattle.head_core.specs.Heads.{ColumnRoom, HeadValue}
-use Rattle.head_core.specs.Steps.{count_of_fate, found, told_item, with_fate, told}
+use Rattle.head_core.specs.Steps.{count_of_fate, found, told_item, with_fate}
 use Rattle.head_core.specs.Room.{CanPut, sets_of, pointed, to_slot, targets, spare_at, HaveSpare, Made, spares_with, HaveCounts, HasRoom, PutUses}
 
 -- behind two lists that are as long, others stand alike

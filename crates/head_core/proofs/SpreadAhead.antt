@@ -1,5 +1,5 @@
 -- What the records of a window say whose bindings were all made ahead: their items, and the counts that they add.
-use Rattle.std.proofs.Common.{◌≡◌, ℕ, ℤ, ◌+◌, ◌<◌, List, [], ◌∷◌, ◌++◌, Some, None, Option, true, false, ap, sym, subst, ◌∙◌, refl, arith, add-zero, append_assoc, length, length-append, take, drop, get_or}
+use Rattle.std.proofs.Common.{◌≡◌, ℕ, ℤ, ◌+◌, ◌<◌, List, [], ◌∷◌, ◌++◌, Some, None, Option, Ok, Err, Result, OnOk, true, false, ap, sym, subst, ◌∙◌, refl, arith, add-zero, append_assoc, length, length-append, take, drop, get_or}
 use Rattle.std.specs.Prelude.{map}
 use Rattle.std.specs.List.{flat_map, fold, list_any}
 use Rattle.std.specs.Option.{option_and_then}
@@ -14,11 +14,11 @@ use Rattle.wal_record.specs.declared.record.WalRecord.TheVariants.{Series, Sampl
 use Rattle.wal_record.specs.Labels.{same_labels}
 use Rattle.wal_record.specs.Entries.{Entry, series, sample, stone, entries_in, entries_of}
 use Rattle.wal_record.specs.Validity.{valid, valid_entry, valid_in, valid_sample, valid_stone}
-use Rattle.wal_record.proofs.Validity.{valid_entries}
+use Rattle.wal_record.proofs.Validity.{record_entries, valid_entries}
 use Rattle.head_column.specs.declared.items.Item.{Item}
 use Rattle.head_column.specs.Items.{outcome_of}
 use Rattle.head_series.specs.Texts.{place}
-use Rattle.head_series.specs.Table.{Labels, Table, slot_at}
+use Rattle.head_series.specs.Table.{Labels, slot_at}
 use Rattle.head_series.specs.Bindings.{IsTableOf, series_of}
 use Rattle.head_series.proofs.Places.{place_none}
 use Rattle.head_core.specs.declared.counts.Counts.{Counts}
@@ -26,10 +26,9 @@ use Rattle.head_core.specs.Owners.{bindings, owner}
 use Rattle.head_core.specs.Taken.{Taken, taken_after, taken_with}
 use Rattle.head_core.specs.Counts.{bound, sample_item, stone_item, items_of, item_fate, fate_at, counts_of}
 use Rattle.head_core.specs.Content.{AreCountsWithin}
-use Rattle.head_core.specs.Steps.{no_counts, with_expired, with_record}
+use Rattle.head_core.specs.Steps.{no_counts, plus, with_expired, with_record}
 use Rattle.head_core.specs.Resolved.{ResolverValue, slot_behind, with_slot, items_at, resolved, known_counts_of, IsResolvable}
-use Rattle.head_core.specs.Resolving.{items_by, with_entry, with_item}
-use Rattle.head_core.specs.Spreading.{plus, with_entries, with_spread, AreSpread}
+use Rattle.head_core.specs.Resolving.{with_item}
 use Rattle.head_core.specs.Changes.{Change, changes_of, placed_series, slot_before}
 use Rattle.head_core.specs.Ahead.{counts_from, counts_with, items_from, items_with, record_with, AreSpreadAt, IsAhead}
 use Rattle.head_core.proofs.Counting.{counts_at, entries_of-push, record_more, tally}
@@ -37,7 +36,7 @@ use Rattle.head_core.proofs.DraftLemmas.{bindings_append, bindings_push}
 use Rattle.head_core.proofs.Known.{is_bound-series_of, owner_is_bound}
 use Rattle.head_core.proofs.Resolving.{by_column, by_none, told_alone, told_more, with_told}
 use Rattle.head_core.proofs.ResolvingValid.{left_split}
-use Rattle.head_core.proofs.SpreadRecords.{plus_expired, plus_fate, plus_item, plus_none, plus_record, within_sum}
+use Rattle.head_core.proofs.Sums.{plus_expired, plus_fate, plus_item, plus_none, plus_record, within_sum}
 use Rattle.head_core.proofs.Validity.{bindings_valid}
 use Rattle.head_core.proofs.Whole.{taken_with-push}
 use Rattle.head_core.proofs.Windows.{at_place, same_slots, table_slots}
@@ -218,18 +217,26 @@ items_both m slots n (r ∷ rs) qs =
     ap (λ (is : List (ℕ × Item)). here ++ is) (items_both m slots (n + 1) rs qs ∙ ap (λ j. items_from m slots (n + 1) rs ++ items_from m slots j qs) k)
     ∙ sym (append_assoc here (items_from m slots (n + 1) rs) (items_from m slots (n + length (r ∷ rs)) qs))
 
+-- two facts of a call that succeeds make a third
+pub both_ok : {T E P Q R : Type 0} (r : Result T E) → (P → Q → R) → OnOk r P → OnOk r Q → OnOk r R
+both_ok (Ok x) f p q = f p q
+both_ok (Err e) f p q = tt
+
 -- one record more is spread
 pub spread_more : (m : ℤ) (slots : ℕ → ℕ → Option ℕ) (n p : ℕ) (rs : List WalRecord) (r : WalRecord) (items new : List (ℕ × Item)) (c d : Counts) → AreSpreadAt m slots n rs items c → p ≡ n + length rs
-    → new ≡ items ++ flat_map (items_with (slots p)) (entries_in (valid_in m r)) → d ≡ record_with m (slots p) r c → AreSpreadAt m slots n (rs ++ r ∷ []) new d
+    → new ≡ items ++ flat_map (items_with (slots p)) (flat_map (valid_entry m) (entries_in r)) → d ≡ fold (counts_with (slots p)) (with_expired m r (with_record r c)) (flat_map (valid_entry m) (entries_in r))
+    → AreSpreadAt m slots n (rs ++ r ∷ []) new d
 spread_more m slots n p rs r items new c d s at more counted = record {
   items_are =
       more
+      ∙ ap (λ es. items ++ flat_map (items_with (slots p)) es) (sym (record_entries m r))
       ∙ ap (λ (is : List (ℕ × Item)). is ++ flat_map (items_with (slots p)) (entries_in (valid_in m r))) s.items_are
       ∙ ap (λ k. items_from m slots n rs ++ flat_map (items_with (slots k)) (entries_in (valid_in m r))) at
       ∙ ap (λ (is : List (ℕ × Item)). items_from m slots n rs ++ is) (sym (append_none (flat_map (items_with (slots (n + length rs))) (entries_in (valid_in m r)))))
       ∙ sym (items_both m slots n rs (r ∷ []));
   counts_are =
       counted
+      ∙ ap (fold (counts_with (slots p)) (with_expired m r (with_record r c))) (sym (record_entries m r))
       ∙ ap (record_with m (slots p) r) s.counts_are
       ∙ ap (λ k. record_with m (slots k) r (counts_from m slots n rs no_counts)) at
       ∙ sym (counts_both m slots n rs (r ∷ []) no_counts);
@@ -277,7 +284,7 @@ module _ (t : Taken) (front rs back : List WalRecord) (cs : List Change) (v : Re
 -- the counts of records that are not the first of the window are within the limits where those of all records are
 pub added_within : (t : Taken) (front before rs back : List WalRecord) (r : WalRecord) (cs : List Change) (v : ResolverValue) (items : List (ℕ × Item)) (c : Counts) (n p : ℕ) → IsAhead t front (before ++ (rs ++ r ∷ back)) cs v
     → n ≡ length front + length before → p ≡ n + length rs → AreSpreadAt v.min_valid (slot_before cs (slot_at v.table)) n rs items c
-    → IsResolvable (taken_with v.min_valid t (front ++ (before ++ (rs ++ r ∷ [])))) → AreCountsWithin (record_with v.min_valid (slot_before cs (slot_at v.table) p) r c)
+    → IsResolvable (taken_with v.min_valid t (front ++ (before ++ (rs ++ r ∷ [])))) → AreCountsWithin (fold (counts_with (slot_before cs (slot_at v.table) p)) (with_expired v.min_valid r (with_record r c)) (flat_map (valid_entry v.min_valid) (entries_in r)))
 added_within t front before rs back r cs v items c n p h first at s w =
     let m = v.min_valid in
     let slots : ℕ → ℕ → Option ℕ = slot_before cs (slot_at v.table) in
@@ -291,7 +298,8 @@ added_within t front before rs back r cs v items c n p h first at s w =
     subst AreCountsWithin
     (counts_both m slots n rs (r ∷ []) no_counts
     ∙ ap (record_with m (slots (n + length rs)) r) (sym s.counts_are)
-    ∙ ap (λ k. record_with m (slots k) r c) (sym at)) few
+    ∙ ap (λ k. record_with m (slots k) r c) (sym at)
+    ∙ ap (fold (counts_with (slots p)) (with_expired m r (with_record r c))) (record_entries m r)) few
 
 -- ---- the entries that a loop has read, and the one that it reads
 
@@ -319,44 +327,3 @@ bound_counted slots (x ∷ xs) c =
 pub bound_itemless : (slots : ℕ → Option ℕ) (xs : List SeriesEntry) → flat_map (items_with slots) (map series xs) ≡ []
 bound_itemless slots [] = refl
 bound_itemless slots (x ∷ xs) = bound_itemless slots xs
-
--- ---- where nothing is bound
-
--- the words of a table and those of its slots are the same
-item_alike : (t : Table) (e : Entry) → items_with (slot_at t) e ≡ items_by t e
-item_alike t (series e) = refl
-item_alike t (sample s) = refl
-item_alike t (stone d) = refl
-
-items_alike : (t : Table) (es : List Entry) → flat_map (items_with (slot_at t)) es ≡ flat_map (items_by t) es
-items_alike t [] = refl
-items_alike t (e ∷ es) = ap (λ (is : List (ℕ × Item)). is ++ flat_map (items_with (slot_at t)) es) (item_alike t e) ∙ ap (λ (is : List (ℕ × Item)). items_by t e ++ is) (items_alike t es)
-
-count_alike : (t : Table) (e : Entry) (c : Counts) → counts_with (slot_at t) c e ≡ with_entry t e c
-count_alike t (series e) c = refl
-count_alike t (sample s) c = refl
-count_alike t (stone d) c = refl
-
-counts_alike : (t : Table) (es : List Entry) (c : Counts) → fold (counts_with (slot_at t)) c es ≡ with_entries t es c
-counts_alike t [] c = refl
-counts_alike t (e ∷ es) c = ap (λ k. fold (counts_with (slot_at t)) k es) (count_alike t e c) ∙ counts_alike t es (with_entry t e c)
-
-all_items_alike : (m : ℤ) (t : Table) (n : ℕ) (rs : List WalRecord) → items_from m (slot_before [] (slot_at t)) n rs ≡ flat_map (items_by t) (entries_of (valid m rs))
-all_items_alike m t n [] = refl
-all_items_alike m t n (r ∷ rs) =
-    ap (λ (is : List (ℕ × Item)). is ++ items_from m (slot_before [] (slot_at t)) (n + 1) rs) (items_alike t (entries_in (valid_in m r)))
-    ∙ ap (λ (is : List (ℕ × Item)). flat_map (items_by t) (entries_in (valid_in m r)) ++ is) (all_items_alike m t (n + 1) rs)
-    ∙ sym (flat_map-append (items_by t) (entries_in (valid_in m r)) (entries_of (valid m rs)))
-
-all_counts_alike : (m : ℤ) (t : Table) (n : ℕ) (rs : List WalRecord) (c : Counts) → counts_from m (slot_before [] (slot_at t)) n rs c ≡ fold (with_spread m t) c rs
-all_counts_alike m t n [] c = refl
-all_counts_alike m t n (r ∷ rs) c =
-    ap (counts_from m (slot_before [] (slot_at t)) (n + 1) rs) (counts_alike t (entries_in (valid_in m r)) (with_expired m r (with_record r c)))
-    ∙ all_counts_alike m t (n + 1) rs (with_spread m t c r)
-
-pub spread_alike : (m : ℤ) (t : Table) (n : ℕ) (rs : List WalRecord) (items : List (ℕ × Item)) (c : Counts) → bindings (entries_of rs) ≡ [] → AreSpreadAt m (slot_before [] (slot_at t)) n rs items c → AreSpread m t rs items c
-spread_alike m t n rs items c quiet s = record {
-  quiet = quiet;
-  items_are = s.items_are ∙ all_items_alike m t n rs;
-  counts_are = s.counts_are ∙ all_counts_alike m t n rs no_counts;
-}

@@ -6,7 +6,6 @@ pub mod Steps
 pub mod Resolved
 pub mod Validity
 pub mod Resolving
-pub mod Spreading
 pub mod Changes
 pub mod Links
 pub mod Ahead

@@ -178,6 +178,24 @@ no_counts = record {
   expired_stones = 0;
 }
 
+-- the sums of two counts of each kind: a word of proofs and of private functions
+abbrev pub plus : Counts → Counts → Counts
+plus c d = record {
+  series_records = c.series_records + d.series_records;
+  sample_records = c.sample_records + d.sample_records;
+  stone_records = c.stone_records + d.stone_records;
+  skipped_records = c.skipped_records + d.skipped_records;
+  series_entries = c.series_entries + d.series_entries;
+  accepted = c.accepted + d.accepted;
+  stale = c.stale + d.stale;
+  unknown = c.unknown + d.unknown;
+  hiding = c.hiding + d.hiding;
+  empty_stones = c.empty_stones + d.empty_stones;
+  unknown_stones = c.unknown_stones + d.unknown_stones;
+  expired_samples = c.expired_samples + d.expired_samples;
+  expired_stones = c.expired_stones + d.expired_stones;
+}
+
 -- Some of the entries were taken, and then one could not be.
 pub record IsOverIn (c : Content) (es : List Entry) : Type 0 where
   pub front : List Entry

@@ -3,6 +3,7 @@
 ghost use Rattle.std.specs.Prelude.{◌≡◌, ◌↔◌, ◌<◌, ◌≤◌, ◌+◌, ◌++◌, ◌∷◌, [], ℕ, List, true, false, Err, length, map, IfSome, IsOk, OnOk, OnErr};
 ghost use Rattle.std.specs.List.{flat_map, fold};
 ghost use Rattle.wal_record.specs.declared.record.WalRecord.{WalRecord as LogRecord};
+ghost use Rattle.wal_record.specs.declared.record.WalRecord.TheVariants.{Samples};
 ghost use Rattle.wal_record.specs.Entries.{Entry, series, entries_in, entries_of};
 ghost use Rattle.wal_record.specs.Validity.{series_in, valid_entry};
 ghost use Rattle.head_column.specs.declared.items.Item.{Item as AnItem};
@@ -11,6 +12,7 @@ ghost use Rattle.head_series.specs.Table.{slot_at};
 ghost use Rattle.head_core.specs.Owners.{bindings};
 ghost use Rattle.head_core.specs.Taken.{Taken, taken_with};
 ghost use Rattle.head_core.specs.Content.{AreCountsWithin};
+ghost use Rattle.head_core.specs.Steps.{with_expired, with_record};
 ghost use Rattle.head_core.specs.Resolved.{resolved, with_slot, IsResolvable, IsResolved};
 ghost use Rattle.head_core.specs.Resolving.{with_item};
 ghost use Rattle.head_core.specs.Changes.{changes_of, slot_before, AreBelow, Change};
@@ -19,12 +21,12 @@ ghost use Rattle.head_core.specs.Ahead.{counts_with, items_with, AreFew, AreSpre
 use crate::changes::Changes;
 use crate::counts::Counts;
 use crate::fault::HeadFault;
-use crate::items::ItemEntry;
+use crate::items::{ItemEntry, expired_in};
 use crate::resolver::Resolver;
 use head_column::Item;
 use head_deal::{Seats, Spread};
 use head_series::Slot;
-use wal_record::{SeriesEntry, WalRecord};
+use wal_record::{SampleEntry, SeriesEntry, WalRecord};
 
 // Adds an item to a spread, or counts it as unknown if it has no slot.
 fn put_item(
@@ -226,6 +228,17 @@ impl Resolver {
         }
     }
 
+    // Counts a record by its type, and its expired entries.
+    fn count_in(&self, log_record: &WalRecord, counts: &mut Counts) -> Result<(), HeadFault>
+        ensures more { OnOk result (counts.new ≡ with_expired self.now.min_valid log_record.now (with_record log_record.now counts.old)) }
+        ensures full { result ≡ Err HeadFault.Full → AreCountsWithin (with_expired self.now.min_valid log_record.now (with_record log_record.now counts.old)) → ⊥ }
+        ensures fault { result ≡ Err HeadFault.Failed → ⊥ }
+    {
+        counts.add_record(log_record)?;
+        let (samples, stones) = expired_in(log_record, self.min_valid());
+        counts.add_expired(samples, stones)
+    }
+
     /// Adds the items of a record at a place of a window to a spread, each with the slot of the series that its reference names at that
     /// place, and adds to `counts` what the record is counted as. `bind_ahead` made all bindings of the window and `changes` before.
     ///
@@ -254,6 +267,32 @@ impl Resolver {
     {
         self.count_in(log_record, counts)?;
         self.spread_record_at(log_record, place, changes, seats, spread, counts)
+    }
+
+    /// Does what `spread_at` does for a record of these samples.
+    pub fn spread_samples_at(
+        &self,
+        samples: &[SampleEntry],
+        place: u64,
+        changes: &Changes,
+        seats: &Seats<'_>,
+        spread: &mut Spread<Item>,
+        counts: &mut Counts,
+    ) -> Result<(), HeadFault>
+        requires sound { self.now.failed ≡ false }
+        requires slots { length self.now.table.series ≤ seats.now.slots }
+        requires below { AreBelow seats.now.slots changes.now }
+        requires workers { seats.now.workers ≡ spread.old.workers }
+        ensures spread { (first : ℕ) (rs : List LogRecord) → AreSpreadAt self.now.min_valid (slot_before changes.now (slot_at self.now.table)) first rs spread.old.items counts.old → place ≡ first + length rs →
+            OnOk result (AreSpreadAt self.now.min_valid (slot_before changes.now (slot_at self.now.table)) first (rs ++ Samples samples.now ∷ []) spread.new.items counts.new) }
+        ensures workers { spread.new.workers ≡ spread.old.workers }
+        ensures full { result ≡ Err HeadFault.Full → (t : Taken) (front before rs back : List LogRecord) → IsAhead t front (before ++ (rs ++ Samples samples.now ∷ back)) changes.now self.now →
+            AreSpreadAt self.now.min_valid (slot_before changes.now (slot_at self.now.table)) (length front + length before) rs spread.old.items counts.old → place ≡ (length front + length before) + length rs →
+            IsResolvable (taken_with self.now.min_valid t (front ++ (before ++ (rs ++ Samples samples.now ∷ [])))) → ⊥ }
+        ensures fault { result ≡ Err HeadFault.Failed → ⊥ }
+    {
+        counts.add_samples(samples, self.min_valid())?;
+        self.spread_all_at(samples, place, changes, seats, spread, counts)
     }
 
     /// Adds the counts of records that were spread, which come next in a window whose bindings were all made ahead, to those of the

@@ -1,16 +1,17 @@
 //! The counts of records and of entries, by kind.
 
 ghost use Rattle.std.specs.Prelude.{◌≡◌, ◌↔◌, ◌⊎◌, ◌+◌, ◌<◌, ◌≤◌, [], All, Err, None, IfOk, IfSome, IsOk, IsTrue, OnErr, OnOk, length};
+ghost use Rattle.wal_record.specs.declared.record.WalRecord.TheVariants.{Samples};
 ghost use Rattle.wal_record.specs.Entries.{entries_in, entries_of};
 ghost use Rattle.head_core.specs.Content.{AreCountsWithin, count_limit};
 ghost use Rattle.head_core.specs.Counts.{count_of_class, fate_of, unknown_fate};
 ghost use Rattle.head_core.specs.Room.{HaveClasses, HaveCounts, HaveExpired};
-ghost use Rattle.head_core.specs.Spreading.{plus};
-ghost use Rattle.head_core.specs.Steps.{count_of_fate, no_counts, with_fate, with_record};
+ghost use Rattle.head_core.specs.Steps.{count_of_fate, no_counts, plus, with_expired, with_fate, with_record, IsExpiredOver};
 
 use crate::fault::HeadFault;
+use crate::items::count_expired;
 use head_column::{Item, Outcome};
-use wal_record::WalRecord;
+use wal_record::{SampleEntry, WalRecord};
 
 /// The numbers of a log's records by type, and of its entries by what became of them, in the order in which they are printed. A deletion
 /// is a *stone*. Entries before the least valid time are *expired*, and counted as nothing else.
@@ -231,6 +232,23 @@ impl Counts {
         self.expired_samples = sum(self.expired_samples, samples as u64)?;
         self.expired_stones = sum(self.expired_stones, stones as u64)?;
         Ok(())
+    }
+
+    // Adds what a record of these samples is counted as: 1 to the count of its type, and the number of its expired samples to theirs.
+    pub(crate) fn add_samples(
+        &mut self,
+        samples: &[SampleEntry],
+        min_valid: i64,
+    ) -> Result<(), HeadFault>
+        ensures more { OnOk result (self.new ≡ with_expired min_valid (Samples samples.now) (with_record (Samples samples.now) self.old)) }
+        ensures over { result ≡ Err HeadFault.Full → (count_of_class (Samples samples.now) self.old ≡ count_limit) ⊎ IsExpiredOver min_valid (Samples samples.now) self.old }
+        ensures full { result ≡ Err HeadFault.Full → AreCountsWithin (with_expired min_valid (Samples samples.now) (with_record (Samples samples.now) self.old)) → ⊥ }
+        ensures counted { count_of_class (Samples samples.now) self.old ≡ count_limit → result ≡ Err HeadFault.Full }
+        ensures fault { result ≡ Err HeadFault.Memory → ⊥ }
+        ensures sound { result ≡ Err HeadFault.Failed → ⊥ }
+    {
+        one_more(&mut self.sample_records)?;
+        self.add_expired(count_expired(samples, min_valid), 0)
     }
 
     // Adds a number of series entries to their count.

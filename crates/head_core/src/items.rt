@@ -1,23 +1,18 @@
 //! Items of entries, and lists of them.
 
-ghost use Rattle.std.specs.Prelude.{◌≡◌, ◌<◌, ◌≤◌, ◌++◌, ◌∷◌, [], Err, Some, None, count_by, length, IfOk, IfSome, IsOk, OnOk};
-ghost use Rattle.std.specs.List.{flat_map};
+ghost use Rattle.std.specs.Prelude.{◌≡◌, ◌<◌, ◌≤◌, ◌++◌, ◌∷◌, [], Err, Some, None, count_by, length, IfOk, IfSome, IsOk};
 ghost use Rattle.std.specs.Option.{option_to_list};
 ghost use Rattle.std.specs.Vec.{vec_capacity};
 ghost use Rattle.wal_record.specs.Entries.{Entry, entries_in};
 ghost use Rattle.wal_record.specs.Validity.{expired_samples, expired_stones, raised, valid_entry};
-ghost use Rattle.head_core.specs.Content.{AreCountsWithin};
 ghost use Rattle.head_core.specs.Counts.{sample_item, stone_item};
-ghost use Rattle.head_core.specs.Resolving.{items_by, IsResolving, IsStopped, IsStoppedIn, Resolves};
-ghost use Rattle.head_core.specs.Spreading.{with_entries};
+ghost use Rattle.head_core.specs.Resolving.{IsResolving, IsStopped, IsStoppedIn, Resolves};
 ghost use Rattle.head_core.specs.Ahead.{AreItem};
 ghost use Rattle.head_core.specs.Validity.{is_expired};
 
-use crate::counts::Counts;
 use crate::fault::HeadFault;
 use crate::resolver::Resolver;
 use head_column::{Item, Run, Sample};
-use head_deal::{Seats, Spread};
 use head_series::Slot;
 use std::alloc::AllocError;
 use wal_record::{SampleEntry, StoneEntry, WalRecord};
@@ -52,23 +47,6 @@ pub(crate) trait ItemEntry {
         ensures memory { result ≡ Err HeadFault.Memory → ⊥ }
         ensures kept { resolver.new.failed ≡ resolver.old.failed }
         ensures time { resolver.new.min_valid ≡ resolver.old.min_valid };
-
-    // Adds the item of what the least valid time leaves of it to a spread, with the slot of its reference's owner. If it has none, counts
-    // the item as unknown.
-    fn spread_valid(
-        &self,
-        resolver: &Resolver,
-        seats: &Seats<'_>,
-        spread: &mut Spread<Item>,
-        counts: &mut Counts,
-    ) -> Result<(), HeadFault>
-        requires slots { length resolver.now.table.series ≤ seats.now.slots }
-        requires workers { seats.now.workers ≡ spread.old.workers }
-        ensures items { OnOk result (spread.new.items ≡ spread.old.items ++ flat_map (items_by resolver.now.table) (valid_entry resolver.now.min_valid (entry self.now))) }
-        ensures counts { OnOk result (counts.new ≡ with_entries resolver.now.table (valid_entry resolver.now.min_valid (entry self.now)) counts.old) }
-        ensures workers { spread.new.workers ≡ spread.old.workers }
-        ensures full { result ≡ Err HeadFault.Full → AreCountsWithin (with_entries resolver.now.table (valid_entry resolver.now.min_valid (entry self.now)) counts.old) → ⊥ }
-        ensures fault { result ≡ Err HeadFault.Failed → ⊥ };
 }
 
 impl ItemEntry for SampleEntry {
@@ -96,21 +74,6 @@ impl ItemEntry for SampleEntry {
             return Ok(None);
         }
         self.find(resolver)
-    }
-
-    fn spread_valid(
-        &self,
-        resolver: &Resolver,
-        seats: &Seats<'_>,
-        spread: &mut Spread<Item>,
-        counts: &mut Counts,
-    ) -> Result<(), HeadFault> {
-        let min_valid = resolver.min_valid();
-        if self.is_expired(min_valid) {
-            return Ok(());
-        }
-        let item = item_of_sample(self);
-        resolver.spread_item(self.reference, item, seats, spread, counts)
     }
 }
 
@@ -140,21 +103,6 @@ impl ItemEntry for StoneEntry {
             return Ok(None);
         }
         raised(self, min_valid).find(resolver)
-    }
-
-    fn spread_valid(
-        &self,
-        resolver: &Resolver,
-        seats: &Seats<'_>,
-        spread: &mut Spread<Item>,
-        counts: &mut Counts,
-    ) -> Result<(), HeadFault> {
-        let min_valid = resolver.min_valid();
-        if self.is_expired(min_valid) {
-            return Ok(());
-        }
-        let item = item_of_stone(&raised(self, min_valid));
-        resolver.spread_item(self.reference, item, seats, spread, counts)
     }
 }
 
@@ -190,7 +138,7 @@ pub(crate) fn raised(entry: &StoneEntry, min_valid: i64) -> StoneEntry
 }
 
 // Returns the number of expired entries.
-fn count_expired<E: ItemEntry>(entries: &[E], min_valid: i64) -> usize
+pub(crate) fn count_expired<E: ItemEntry>(entries: &[E], min_valid: i64) -> usize
     ensures { result ≡ count_by (λ e. is_expired min_valid (E.entry e)) entries.now }
 {
     let mut expired = 0;

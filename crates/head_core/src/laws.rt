@@ -12,7 +12,7 @@ ghost use Rattle.head_column.specs.Histories.{history_after, history_outcome, la
 ghost use Rattle.head_column.specs.Hours.{is_in_hour};
 ghost use Rattle.head_column.specs.Tallies.{latest_after, latest_outcome};
 ghost use Rattle.head_series.specs.Bindings.{series_of};
-ghost use Rattle.head_series.specs.Table.{IsLeast, Labels, Table, after, labels_at, slot_at};
+ghost use Rattle.head_series.specs.Table.{IsLeast, Labels, after, labels_at, slot_at};
 ghost use Rattle.head_series.specs.Texts.{Text, place};
 ghost use Rattle.head_postings.specs.Postings.{selected};
 ghost use Rattle.head_core.specs.Owners.{bindings};
@@ -20,11 +20,9 @@ ghost use Rattle.head_core.specs.Taken.{Taken, taken_after, taken_of, taken_with
 ghost use Rattle.head_core.specs.Counts.{counts_of, fate_at, items_of, known};
 ghost use Rattle.head_core.specs.Content.{AreAlike, AreHistoriesOf, Content, IsContentOf, IsShownBy, IsWithinLimits};
 ghost use Rattle.head_core.specs.Heads.{history_at};
-ghost use Rattle.head_core.specs.declared.counts.Counts.{Counts as TheCounts};
 ghost use Rattle.head_core.specs.Resolved.{resolved, slot_behind, IsResolvable, IsResolved, ResolverValue};
 ghost use Rattle.head_core.specs.Changes.{slot_before, Change};
 ghost use Rattle.head_core.specs.Ahead.{AreSpreadAt, IsAhead};
-ghost use Rattle.head_core.specs.Spreading.{AreSpread};
 ghost use Rattle.head_core.specs.Steps.{no_counts};
 ghost use Rattle.head_core.specs.Validity.{HaveFates, IsValidEntry, content_from, entry_from};
 ghost use Rattle.head_core.specs.Applied.{AreCountsOfOutcomes, new_slots, outcomes_after, values_after};
@@ -95,16 +93,14 @@ pub fn limits_hold_before()
     ensures resolvable { (t : Taken) → IsWithinLimits t → IsResolvable t }
 {}
 
-/// Of no records nothing is spread (`none`), and what is taken of more records with the same least valid time is taken of all (`taken`).
+/// What is taken of more records with the same least valid time is taken of all (`taken`).
 pub fn spread_records()
-    ensures none { (m : ℤ) (table : Table) → AreSpread m table [] [] no_counts }
     ensures taken { (m : ℤ) (rs more : List LogRecord) → taken_with m (taken_of m rs) more ≡ taken_of m (rs ++ more) }
 {}
 
 /// A window of records begins with none (`start`), and its records that bind nothing need no binding (`quiet`). Where its bindings were
 /// made ahead, a reference has at each place the slot that it has behind the records before that place (`places`). Where all of its records
-/// were taken, what was taken of the log is resolved (`done`). Of no records nothing is spread (`none`), and where nothing is bound, what
-/// records say at their places is what they say by the table alone (`alike`).
+/// were taken, what was taken of the log is resolved (`done`). Of no records nothing is spread (`none`).
 pub fn spread_ahead()
     ensures start { (t : Taken) (v : ResolverValue) → IsResolved t v → IsAhead t [] [] [] v }
     ensures quiet { (t : Taken) (front back more : List LogRecord) (cs : List Change) (v : ResolverValue) → IsAhead t front back cs v → bindings (entries_of more) ≡ [] → IsAhead t front (back ++ more) cs v }
@@ -112,8 +108,6 @@ pub fn spread_ahead()
         (r : ℕ) → slot_before cs (slot_at v.table) (length before) r ≡ slot_behind (entries_of (taken_with v.min_valid t before).kept) r }
     ensures done { (t : Taken) (rs : List LogRecord) (cs : List Change) (v : ResolverValue) → IsAhead t rs [] cs v → IsResolved (taken_with v.min_valid t rs) v }
     ensures none { (m : ℤ) (slots : ℕ → ℕ → Option ℕ) (n : ℕ) → AreSpreadAt m slots n [] [] no_counts }
-    ensures alike { (m : ℤ) (table : Table) (n : ℕ) (rs : List LogRecord) (items : List (ℕ × Item)) (c : TheCounts) → bindings (entries_of rs) ≡ [] →
-        AreSpreadAt m (slot_before [] (slot_at table)) n rs items c → AreSpread m table rs items c }
 {}
 
 /// What a least valid time leaves of entries makes the content without the samples and the hidden times before it (`shown`), and the

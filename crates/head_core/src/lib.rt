@@ -20,7 +20,6 @@ mod replay;
 mod reserved;
 mod reserving;
 mod resolver;
-mod spreading;
 mod views;
 
 pub use changes::Changes;
@@ -37,4 +36,3 @@ pub use postings::postings_of;
 pub use replay::{ReplayFault, Replayed, replay_serial, replay_serial_from};
 pub use reserved::Reserved;
 pub use resolver::Resolver;
-pub use spreading::binds_any;

@@ -1,10 +1,9 @@
 -- How a series is kept, as numbers of texts: words of proofs, which no public contract cites.
-use Rattle.std.specs.Prelude.{◌≡◌, ℕ, ◌+◌, ◌<◌, ◌≤◌, Bool, false, List, [], ◌∷◌, ◌++◌, map, length, Option, Some, None, slice_get, slice_index, slice_index_or}
-use Rattle.std.specs.Hash as fed
-use Rattle.std.specs.Hash.FoldHasher as folds
-use Rattle.std.specs.List.{list_any, flat_map, fold}
+use Rattle.std.specs.Prelude.{◌≡◌, ℕ, ◌+◌, ◌<◌, ◌≤◌, Bool, false, List, [], ◌∷◌, map, length, Option, Some, None, slice_get, slice_index, slice_index_or}
+use Rattle.std.specs.List.{list_any}
 use Rattle.wal_record.specs.declared.labels.Label.{Label}
 pub use Rattle.wal_record.specs.Labels.{label}
+pub use Rattle.wal_record.specs.Hashes.{labels_hash}
 use Rattle.head_series.specs.Texts.{Text, with_texts, texts_of}
 
 -- the label of two numbers
@@ -33,14 +32,6 @@ pub record IsRead (old : List Text) (ls : List Label) (ts : List Text) (ns : Lis
 abbrev pub AreDistinct : {A : Type 0} → (A → A → Bool) → List A → Type 0
 AreDistinct same [] = Unit {0}
 AreDistinct same (x ∷ xs) = (list_any (same x) xs ≡ false) × AreDistinct same xs
-
--- what hashing writes of a label
-abbrev pub label_input : Label → List (List ℕ)
-label_input l = fed.slice fed.u8 l.name ++ fed.slice fed.u8 l.value
-
--- the hash of a label set
-unfoldable pub labels_hash : List Label → ℕ
-labels_hash ls = folds.finish (fold folds.write folds.initial (flat_map label_input ls))
 
 -- n is the last place before b at which xs has h, plus 1, or 0 if there is none
 pub record IsLast (xs : List ℕ) (b h n : ℕ) : Type 0 where

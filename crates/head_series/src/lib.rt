@@ -7,7 +7,6 @@
 
 mod candidates;
 mod comparing;
-mod hashing;
 mod heap;
 mod interner;
 mod laws;

@@ -8,7 +8,6 @@ ghost use Rattle.head_series.specs.Room.{high_one, HasRoom, Uses};
 ghost use Rattle.head_series.specs.Table.{has_series, slot_at, texts_with, with_greatest, with_series, AreAlike, IsFull, IsWith, Labels};
 ghost use Rattle.head_series.specs.Texts.{place, with_texts, texts_of};
 
-use crate::hashing::hash_of;
 use crate::heap::Heap;
 use crate::interner::{InternFault, Interner};
 use crate::ready::Ready;
@@ -222,7 +221,7 @@ impl SeriesTable {
             Err(InternFault::Full) => return Err(BindFault::Full),
             Err(InternFault::Memory) => return Err(BindFault::Memory),
         };
-        let hash = hash_of(labels);
+        let hash = labels.hash();
         let previous = last_with(&self.last_by_hash, hash);
         note_last(&mut self.last_by_hash, hash, slot + 1);
         self.rows.push_reserved(Row { numbers, previous });
@@ -248,7 +247,7 @@ impl SeriesTable {
         let _most = self.most;
         let number = self.rows.len() as u32;
         let numbers = self.texts.put_all(ready);
-        let hash = hash_of(labels);
+        let hash = labels.hash();
         let previous = last_with(&self.last_by_hash, hash);
         note_last(&mut self.last_by_hash, hash, number + 1);
         self.rows.push_reserved(Row { numbers, previous });

@@ -7,7 +7,6 @@ ghost use Rattle.head_series.specs.Table.{after, labels_at, slot_at, AreAlike, I
 ghost use Rattle.head_series.specs.Texts.{place};
 
 use crate::comparing::compare_numbers;
-use crate::hashing::hash_of;
 use crate::maps::copied;
 use crate::rows::{copied_rows, is_named, last_with};
 use crate::table::SeriesTable;
@@ -45,7 +44,7 @@ impl SeriesTable {
         ensures slot { result ≡ place (same_labels labels.now) self.now.series }
         ensures within { IfSome result (λ slot. slot < length self.now.series) }
     {
-        let mut next = last_with(&self.last_by_hash, hash_of(labels));
+        let mut next = last_with(&self.last_by_hash, labels.hash());
         while next != 0 {
             let slot = next - 1;
             let row = &self.rows[slot as usize];

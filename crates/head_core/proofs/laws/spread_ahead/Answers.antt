@@ -1,6 +1,6 @@
 use Rattle.std.proofs.Common.{refl}
 use Rattle.head_core.proofs.BindingAhead.{ahead_done, ahead_none, ahead_quiet}
-use Rattle.head_core.proofs.SpreadAhead.{ahead_places, spread_alike}
+use Rattle.head_core.proofs.SpreadAhead.{ahead_places}
 use Rattle.head_core.proofs.laws.spread_ahead.Goals as goal
 
 pub returns : goal.returns
@@ -10,5 +10,4 @@ returns c = record {
   places = ahead_places;
   done = ahead_done;
   none = λ m slots n. record { items_are = refl; counts_are = refl };
-  alike = spread_alike;
 }

@@ -1,21 +1,16 @@
-use Rattle.std.proofs.Common.{rules, ◌≡◌, ◌+◌, ◌++◌, Err, Ok, Result, OnOk, ap, refl, sym, subst, length, List, ◌∙◌}
+use Rattle.std.proofs.Common.{rules, ◌≡◌, ◌+◌, Err, ap, refl, sym, subst, length, ◌∙◌}
 use Rattle.std.specs.List.{flat_map, fold}
-use Rattle.wal_record.specs.Entries.{Entry, entries_in}
-use Rattle.wal_record.specs.Validity.{valid_entry, valid_in}
-use Rattle.wal_record.proofs.Validity.{record_entries}
+use Rattle.wal_record.specs.Entries.{entries_in}
+use Rattle.wal_record.specs.Validity.{valid_entry}
 use Rattle.head_series.specs.Table.{slot_at}
 use Rattle.head_core.specs.declared.counts.Counts.{Counts}
 use Rattle.head_core.specs.declared.fault.HeadFault.TheVariants.{Full}
 use Rattle.head_core.specs.Content.{AreCountsWithin}
 use Rattle.head_core.specs.Steps.{with_expired, with_record}
 use Rattle.head_core.specs.Changes.{slot_before}
-use Rattle.head_core.specs.Ahead.{counts_with, items_with}
-use Rattle.head_core.proofs.SpreadAhead.{added_within, spread_more, within_before}
+use Rattle.head_core.specs.Ahead.{counts_with}
+use Rattle.head_core.proofs.SpreadAhead.{added_within, both_ok, spread_more, within_before}
 use Rattle.head_core.proofs.resolver.Resolver.spread_at.Goals as goal
-
-both_ok : {T E P Q R : Type 0} (r : Result T E) → (P → Q → R) → OnOk r P → OnOk r Q → OnOk r R
-both_ok (Ok x) f p q = f p q
-both_ok (Err e) f p q = tt
 
 pub returns-in_err-count_in-clause-full : goal.returns-in_err-count_in-clause-full
 returns-in_err-count_in-clause-full c = λ e t front before rs back h s at w.
@@ -24,7 +19,7 @@ returns-in_err-count_in-clause-full c = λ e t front before rs back h s at w.
     let r = c.args.log_record.now in
     let slots = slot_before c.args.changes.now (slot_at c.args.self.now.table) in
     c.count_in.ensures.full full
-    (within_before (slots c.args.place) (entries_in (valid_in m r)) (with_expired m r (with_record r c.args.counts.now))
+    (within_before (slots c.args.place) (flat_map (valid_entry m) (entries_in r)) (with_expired m r (with_record r c.args.counts.now))
     (added_within t front before rs back r c.args.changes.now c.args.self.now c.args.spread.now.items c.args.counts.now (length front + length before) c.args.place h refl at s w))
 
 pub returns-clause-spread : goal.returns-clause-spread
@@ -34,10 +29,7 @@ returns-clause-spread c = λ first rs s at.
     let slots = slot_before c.args.changes.now (slot_at c.args.self.now.table) in
     both_ok c.spread_record_at.result
     (λ items counts. spread_more m slots first c.args.place rs r c.args.spread.now.items c.spread_record_at.new.spread.items c.args.counts.now c.spread_record_at.new.counts s at
-    (items ∙ ap (λ (es : List Entry). c.args.spread.now.items ++ flat_map (items_with (slots c.args.place)) es) (sym (record_entries m r)))
-    (counts
-    ∙ ap (λ (k : Counts). fold (counts_with (slots c.args.place)) k (flat_map (valid_entry m) (entries_in r))) c.in_ok-count_in.ensures.more
-    ∙ ap (fold (counts_with (slots c.args.place)) (with_expired m r (with_record r c.args.counts.now))) (sym (record_entries m r))))
+    items (counts ∙ ap (λ (k : Counts). fold (counts_with (slots c.args.place)) k (flat_map (valid_entry m) (entries_in r))) c.in_ok-count_in.ensures.more))
     c.spread_record_at.ensures.items c.spread_record_at.ensures.counts
 
 pub returns-clause-full : goal.returns-clause-full
@@ -46,7 +38,5 @@ returns-clause-full c = λ e t front before rs back h s at w.
     let r = c.args.log_record.now in
     let slots = slot_before c.args.changes.now (slot_at c.args.self.now.table) in
     c.spread_record_at.ensures.full e
-    (subst AreCountsWithin
-    (ap (fold (counts_with (slots c.args.place)) (with_expired m r (with_record r c.args.counts.now))) (record_entries m r)
-    ∙ ap (λ (k : Counts). fold (counts_with (slots c.args.place)) k (flat_map (valid_entry m) (entries_in r))) (sym c.in_ok-count_in.ensures.more))
+    (subst (λ (k : Counts). AreCountsWithin (fold (counts_with (slots c.args.place)) k (flat_map (valid_entry m) (entries_in r)))) (sym c.in_ok-count_in.ensures.more)
     (added_within t front before rs back r c.args.changes.now c.args.self.now c.args.spread.now.items c.args.counts.now (length front + length before) c.args.place h refl at s w))

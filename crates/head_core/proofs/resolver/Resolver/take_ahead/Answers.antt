@@ -2,7 +2,7 @@ use Rattle.std.proofs.Common.{rules, ◌≡◌, ◌++◌, Err, ap, ◌∙◌}
 use Rattle.std.proofs.lemmas.Result.{on_ok_weaker}
 use Rattle.head_core.specs.declared.fault.HeadFault.TheVariants.{Full}
 use Rattle.head_core.specs.Resolved.{ResolverValue}
-use Rattle.head_core.specs.Spreading.{plus}
+use Rattle.head_core.specs.Steps.{plus}
 use Rattle.head_core.proofs.BindingAhead.{ahead_like}
 use Rattle.head_core.proofs.SpreadAhead.{ahead_items, ahead_taken, ahead_within}
 use Rattle.head_core.proofs.resolver.Resolver.take_ahead.Goals as goal

@@ -16,9 +16,9 @@ invariant_of-self-2 c =
     let seen = ap (λ t. t.series) c.self.view_is in
     let made = created c.self.inside.texts c.numbers.new.self (texts_of c.args.labels.now) c.self.inside.most c.self.inside.rows.items c.push_reserved.new.self.items row
     c.self.inside.last_by_hash.entries c.reserve-2.new.self.entries c.note_last.new.last_by_hash.entries c.self.inside.references.series c.push.new.self.series
-    c.args.labels.now c.hash_of-hash.result c.len-slot.result
+    c.args.labels.now c.hash-hash.result c.len-slot.result
     c.self.invariant c.in-Ok.ensures.texts c.in-Ok.ensures.most c.in-Ok.ensures.within c.in-Ok.ensures.numbers
-    (c.len-slot.ensures ∙ c.self.inside.rows.ok.0) (omega (arith, c.if-slot-self.false)) c.hash_of-hash.ensures.ordered (ap (λ z. has_series z c.args.labels.now) seen ∙ c.requires.new) c.hash_of-hash.ensures.hash
+    (c.len-slot.ensures ∙ c.self.inside.rows.ok.0) (omega (arith, c.if-slot-self.false)) c.hash-hash.ensures.ordered (ap (λ z. has_series z c.args.labels.now) seen ∙ c.requires.new) c.hash-hash.ensures.hash
     c.in_ok-reserve-2.ensures.entries c.last_with-previous.ensures c.note_last.ensures.lasts
     (c.push_reserved.ensures.items ∙ ap (λ z. z ++ row ∷ []) c.in_ok-reserve.ensures.items)
     (c.push.ensures.series ∙ ap (λ n. n + 1) (c.in_ok-reserve-3.ensures.series ∙ c.in_ok-reserve_series.ensures.series)) in
@@ -30,9 +30,9 @@ returns-clause-series c =
     let seen = ap (λ t. t.series) c.self.view_is in
     let made = created c.self.inside.texts c.numbers.new.self (texts_of c.args.labels.now) c.self.inside.most c.self.inside.rows.items c.push_reserved.new.self.items row
     c.self.inside.last_by_hash.entries c.reserve-2.new.self.entries c.note_last.new.last_by_hash.entries c.self.inside.references.series c.push.new.self.series
-    c.args.labels.now c.hash_of-hash.result c.len-slot.result
+    c.args.labels.now c.hash-hash.result c.len-slot.result
     c.self.invariant c.in-Ok.ensures.texts c.in-Ok.ensures.most c.in-Ok.ensures.within c.in-Ok.ensures.numbers
-    (c.len-slot.ensures ∙ c.self.inside.rows.ok.0) (omega (arith, c.if-slot-self.false)) c.hash_of-hash.ensures.ordered (ap (λ z. has_series z c.args.labels.now) seen ∙ c.requires.new) c.hash_of-hash.ensures.hash
+    (c.len-slot.ensures ∙ c.self.inside.rows.ok.0) (omega (arith, c.if-slot-self.false)) c.hash-hash.ensures.ordered (ap (λ z. has_series z c.args.labels.now) seen ∙ c.requires.new) c.hash-hash.ensures.hash
     c.in_ok-reserve-2.ensures.entries c.last_with-previous.ensures c.note_last.ensures.lasts
     (c.push_reserved.ensures.items ∙ ap (λ z. z ++ row ∷ []) c.in_ok-reserve.ensures.items)
     (c.push.ensures.series ∙ ap (λ n. n + 1) (c.in_ok-reserve-3.ensures.series ∙ c.in_ok-reserve_series.ensures.series)) in

@@ -22,9 +22,9 @@ invariant_of-self c =
     let counted : c.len-number.result ≡ length c.self.inside.rows.items = c.len-number.ensures ∙ c.self.inside.rows.ok.0 in
     let made = created c.self.inside.texts c.put_all-numbers.new.self (texts_of c.args.labels.now) c.self.inside.most c.self.inside.rows.items c.push_reserved.new.self.items row
     c.self.inside.last_by_hash.entries c.self.inside.last_by_hash.entries c.note_last.new.last_by_hash.entries c.self.inside.references.series c.push.new.self.series
-    c.args.labels.now c.hash_of-hash.result c.len-number.result
+    c.args.labels.now c.hash-hash.result c.len-number.result
     c.self.invariant (c.put_all-numbers.ensures.texts ∙ ap (λ ls. with_texts c.self.inside.texts.texts (texts_of ls)) c.requires.ready) c.put_all-numbers.ensures.most c.put_all-numbers.ensures.within (c.put_all-numbers.ensures.numbers ∙ c.requires.ready)
-    counted (omega (arith, below, counted, many, most)) c.hash_of-hash.ensures.ordered (ap (λ z. has_series z c.args.labels.now) seen ∙ c.requires.new) c.hash_of-hash.ensures.hash
+    counted (omega (arith, below, counted, many, most)) c.hash-hash.ensures.ordered (ap (λ z. has_series z c.args.labels.now) seen ∙ c.requires.new) c.hash-hash.ensures.hash
     refl c.last_with-previous.ensures c.note_last.ensures.lasts
     c.push_reserved.ensures.items c.push.ensures.series in
     made.1
@@ -40,9 +40,9 @@ returns-clause-series c =
     let counted : c.len-number.result ≡ length c.self.inside.rows.items = c.len-number.ensures ∙ c.self.inside.rows.ok.0 in
     let made = created c.self.inside.texts c.put_all-numbers.new.self (texts_of c.args.labels.now) c.self.inside.most c.self.inside.rows.items c.push_reserved.new.self.items row
     c.self.inside.last_by_hash.entries c.self.inside.last_by_hash.entries c.note_last.new.last_by_hash.entries c.self.inside.references.series c.push.new.self.series
-    c.args.labels.now c.hash_of-hash.result c.len-number.result
+    c.args.labels.now c.hash-hash.result c.len-number.result
     c.self.invariant (c.put_all-numbers.ensures.texts ∙ ap (λ ls. with_texts c.self.inside.texts.texts (texts_of ls)) c.requires.ready) c.put_all-numbers.ensures.most c.put_all-numbers.ensures.within (c.put_all-numbers.ensures.numbers ∙ c.requires.ready)
-    counted (omega (arith, below, counted, many, most)) c.hash_of-hash.ensures.ordered (ap (λ z. has_series z c.args.labels.now) seen ∙ c.requires.new) c.hash_of-hash.ensures.hash
+    counted (omega (arith, below, counted, many, most)) c.hash-hash.ensures.ordered (ap (λ z. has_series z c.args.labels.now) seen ∙ c.requires.new) c.hash-hash.ensures.hash
     refl c.last_with-previous.ensures c.note_last.ensures.lasts
     c.push_reserved.ensures.items c.push.ensures.series in
     made.0 ∙ ap (λ z. z ++ c.args.labels.now ∷ []) seen
