@@ -5,6 +5,7 @@ pub mod Growing
 pub mod Items
 pub mod Lists
 pub mod Made
+pub mod Pages
 pub mod Partial
 pub mod RecordByRecord
 pub mod Shares

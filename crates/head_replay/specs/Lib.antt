@@ -1,5 +1,6 @@
 pub mod Applying
 pub mod Faults
+pub mod Next
 pub mod Partial
 pub mod Records
 pub mod Shares

@@ -9,18 +9,19 @@ ghost use Rattle.head_core.specs.Content.{IsWithinLimits};
 ghost use Rattle.head_core.specs.Taken.{taken_of};
 ghost use Rattle.head_replay.specs.Records.{records_of};
 
-use head_core::{Changes, HeadFault, Resolver, limits_hold_before, spread_records};
-use wal_log::{Items, Placed};
+use head_core::{Changes, HeadFault, Resolver, limits_hold_before, spread_ahead, spread_records};
+use wal_log::Placed;
+use wal_scan::PageRecords;
 
 /// The records of a window, page by page, and what their bindings changed, which were all made ahead.
 #[derive(Drop)]
 pub(crate) struct BoundPages {
-    pub(crate) pages: Vec<Items<Placed>>,
+    pub(crate) pages: Vec<PageRecords>,
     pub(crate) changes: Changes,
 }
 
-// Binds the references of a page's records, the first of which is at a place of the window, and returns the place behind them.
-fn bind_page(
+// Binds the references of records, the first of which is at a place of the window, and returns the place behind them.
+fn bind_records(
     resolver: &mut Resolver,
     changes: &mut Changes,
     place: u64,
@@ -52,11 +53,41 @@ fn bind_page(
     Ok(place)
 }
 
+// Does the same with the records of a page. Samples bind nothing.
+fn bind_page(
+    resolver: &mut Resolver,
+    changes: &mut Changes,
+    place: u64,
+    page: &PageRecords,
+) -> Result<u64, HeadFault>
+    requires { resolver.old.failed ≡ false }
+    ensures ahead { (m : ℤ) (rs back : List LogRecord) → IsAhead (taken_of m rs) [] back changes.old resolver.old → place ≡ length back →
+        IfOk result (λ _. IsAhead (taken_of m rs) [] (back ++ contents page.now) changes.new resolver.new) }
+    ensures place { IfOk result (λ behind. behind ≡ place + length page.now) }
+    ensures below { (n : ℕ) → length resolver.new.table.series ≤ n → AreBelow n changes.old → IfOk result (λ _. AreBelow n changes.new) }
+    ensures more { length resolver.old.table.series ≤ length resolver.new.table.series }
+    ensures full { result ≡ Err HeadFault.Full → (m : ℤ) (rs back : List LogRecord) → IsAhead (taken_of m rs) [] back changes.old resolver.old → resolver.old.min_valid ≡ m →
+        place ≡ length back → IsWithinLimits (taken_of m (rs ++ (back ++ contents page.now))) → ⊥ }
+    ensures time { resolver.new.min_valid ≡ resolver.old.min_valid }
+    ensures sound { IfOk result (λ _. resolver.new.failed ≡ false) }
+    ensures fault { result ≡ Err HeadFault.Failed → ⊥ }
+{
+    // laws that the proof rests on
+    limits_hold_before();
+    spread_ahead();
+    let (before, samples, behind) = page.parts();
+    let first = bind_records(resolver, changes, place, before)?;
+    let Some(next) = first.checked_add(samples.len() as u64) else {
+        return Err(HeadFault::Memory);
+    };
+    bind_records(resolver, changes, next, behind)
+}
+
 /// Binds the references of the records of a window, page by page, and notes in `changes` what each named before.
 pub(crate) fn bind_pages(
     resolver: &mut Resolver,
     changes: &mut Changes,
-    pages: &[Items<Placed>],
+    pages: &[PageRecords],
 ) -> Result<(), HeadFault>
     requires { resolver.old.failed ≡ false }
     ensures ahead { (m : ℤ) (rs : List LogRecord) → IsAhead (taken_of m rs) [] [] changes.old resolver.old →
@@ -72,8 +103,8 @@ pub(crate) fn bind_pages(
     // a law that the proof rests on
     limits_hold_before();
     let mut place = 0;
-    for records in pages {
-        place = bind_page(resolver, changes, place, records.as_slice())?;
+    for page in pages {
+        place = bind_page(resolver, changes, place, page)?;
     }
     Ok(())
 }

@@ -21,10 +21,6 @@ pub(crate) trait SeriesBuilder: Builder<Item = Item, Outcome = Outcome> {
     fn of_new_series(alloc: Global) -> Self
         ensures { Self.value result ≡ Self.value blank };
 
-    /// Returns the number of workers from which on they also resolve and spread records that bind nothing. With fewer, the calling thread
-    /// keeps up with it while the workers scan. It changes only how long a replay takes.
-    fn spreading_workers() -> usize;
-
     /// Does nothing. Its clause is a law: the outcomes of a log's items are those that the log's counts say.
     fn counts_of_outcomes()
         ensures { (t : Taken) → AreCountsOfOutcomes (outcomes_after Self.after Self.outcome (new_slots (Self.value blank) (entries_of t.kept)) (resolved (entries_of t.kept))) (counts_of t) };
@@ -39,10 +35,6 @@ impl SeriesBuilder for Column {
         Column::new(alloc)
     }
 
-    fn spreading_workers() -> usize {
-        4
-    }
-
     fn counts_of_outcomes() {
         items_make_series();
     }
@@ -55,11 +47,6 @@ impl SeriesBuilder for Tally {
 
     fn of_new_series(_alloc: Global) -> Tally {
         Tally::new()
-    }
-
-    // a tally takes an item so quickly that starting threads for this costs more than it saves
-    fn spreading_workers() -> usize {
-        usize::MAX
     }
 
     fn counts_of_outcomes() {

@@ -18,7 +18,7 @@ use head_deal::{Seats, Spare, Spread};
 use std::alloc::{AllocError, Global};
 use std::mem;
 use wal_log::{Items, Placed};
-use wal_scan::Room;
+use wal_scan::{PageRecords, Room, SampleRecords};
 
 /// What some records make: their items, spread, what they add to the counts, and the lists that are left of them.
 #[derive(Drop)]
@@ -48,9 +48,9 @@ impl Spreading {
         })
     }
 
-    // Adds the records of a page, the first of which is at a place of the window, and returns the place behind them. Returns an error if
+    // Adds records, the first of which is at a place of the window, and returns the place behind them. Returns an error if
     // out of memory.
-    fn add_page(
+    fn add_records(
         &mut self,
         alloc: Global,
         resolver: &Resolver,
@@ -88,6 +88,69 @@ impl Spreading {
         Ok(place)
     }
 
+    // Adds records of samples, as `add_records` does.
+    fn add_samples(
+        &mut self,
+        resolver: &Resolver,
+        changes: &Changes,
+        seats: &Seats<'_>,
+        place: u64,
+        records: SampleRecords,
+    ) -> Result<u64, AllocError>
+        requires sound { resolver.now.failed ≡ false }
+        requires slots { length resolver.now.table.series ≤ seats.now.slots }
+        requires below { AreBelow seats.now.slots changes.now }
+        requires workers { seats.now.workers ≡ self.old.spread.workers }
+        ensures spread { (first : ℕ) (rs : List LogRecord) → AreSpreadAt resolver.now.min_valid (slot_before changes.now (slot_at resolver.now.table)) first rs self.old.spread.items self.old.counts →
+            place ≡ first + length rs → OnOk result (AreSpreadAt resolver.now.min_valid (slot_before changes.now (slot_at resolver.now.table)) first (rs ++ contents records) self.new.spread.items self.new.counts) }
+        ensures place { IfOk result (λ behind. behind ≡ place + length records) }
+        ensures workers { self.new.spread.workers ≡ self.old.spread.workers }
+    {
+        let mut place = place;
+        let mut lists = records.lists();
+        while let Some(samples) = lists.next() {
+            // a count of entries that are in memory is below its limit
+            let Ok(()) = resolver.spread_samples_at(
+                samples,
+                place,
+                changes,
+                seats,
+                &mut self.spread,
+                &mut self.counts,
+            ) else {
+                return Err(AllocError);
+            };
+            place = place.checked_add(1).ok_or(AllocError)?;
+        }
+        self.room.keep_samples(records);
+        Ok(place)
+    }
+
+    // Adds the records of a page, as `add_records` does.
+    fn add_page(
+        &mut self,
+        alloc: Global,
+        resolver: &Resolver,
+        changes: &Changes,
+        seats: &Seats<'_>,
+        place: u64,
+        page: PageRecords,
+    ) -> Result<u64, AllocError>
+        requires sound { resolver.now.failed ≡ false }
+        requires slots { length resolver.now.table.series ≤ seats.now.slots }
+        requires below { AreBelow seats.now.slots changes.now }
+        requires workers { seats.now.workers ≡ self.old.spread.workers }
+        ensures spread { (first : ℕ) (rs : List LogRecord) → AreSpreadAt resolver.now.min_valid (slot_before changes.now (slot_at resolver.now.table)) first rs self.old.spread.items self.old.counts →
+            place ≡ first + length rs → OnOk result (AreSpreadAt resolver.now.min_valid (slot_before changes.now (slot_at resolver.now.table)) first (rs ++ contents page) self.new.spread.items self.new.counts) }
+        ensures place { IfOk result (λ behind. behind ≡ place + length page) }
+        ensures workers { self.new.spread.workers ≡ self.old.spread.workers }
+    {
+        let (before, samples, behind) = page.into_parts();
+        let first = self.add_records(alloc, resolver, changes, seats, place, before)?;
+        let next = self.add_samples(resolver, changes, seats, first, samples)?;
+        self.add_records(alloc, resolver, changes, seats, next, behind)
+    }
+
     // Adds the records of more pages, as `add_page` does. Returns an error if out of memory.
     fn add_pages(
         &mut self,
@@ -96,7 +159,7 @@ impl Spreading {
         changes: &Changes,
         seats: &Seats<'_>,
         place: u64,
-        pages: Vec<Items<Placed>>,
+        pages: Vec<PageRecords>,
     ) -> Result<(), AllocError>
         requires sound { resolver.now.failed ≡ false }
         requires slots { length resolver.now.table.series ≤ seats.now.slots }
@@ -107,8 +170,8 @@ impl Spreading {
         ensures workers { self.new.spread.workers ≡ self.old.spread.workers }
     {
         let mut place = place;
-        for records in pages {
-            place = self.add_page(alloc, resolver, changes, seats, place, records)?;
+        for page in pages {
+            place = self.add_page(alloc, resolver, changes, seats, place, page)?;
         }
         Ok(())
     }
@@ -122,7 +185,7 @@ pub(crate) struct SpreadJob<'t> {
     changes: &'t Changes,
     seats: &'t Seats<'t>,
     place: u64,
-    pages: Vec<Items<Placed>>,
+    pages: Vec<PageRecords>,
     made: Spreading,
     ghost ready: { (resolver.now.failed ≡ false) × (length resolver.now.table.series ≤ seats.now.slots) × AreBelow seats.now.slots changes.now × (seats.now.workers ≡ made.spread.workers) } by { Prim.hlevel props },
 }
@@ -155,7 +218,7 @@ pub(crate) fn new_job<'t>(
     seats: &'t Seats<'t>,
     spare: Option<Spare<Item>>,
     place: u64,
-    pages: Vec<Items<Placed>>,
+    pages: Vec<PageRecords>,
 ) -> Result<SpreadJob<'t>, AllocError>
     requires sound { resolver.now.failed ≡ false }
     requires slots { length resolver.now.table.series ≤ seats.now.slots }

@@ -1,8 +1,7 @@
 -- A job may go to another thread. For structs with a heap of boxes in them, as a table of series has one, no such lemma is written by itself.
 use denote.Param.Send.{IsSync, sendable}
 use Rattle.std.proofs.Crossing.{crosses}
-use Rattle.hw_bytes.proofs.items.Items.TheSendSync as Items
-use Rattle.wal_log.proofs.reading.Placed.TheSendSync as Placed
+use Rattle.wal_scan.proofs.samples.PageRecords.TheSendSync as PageRecords
 use Rattle.head_deal.proofs.seats.Seats.TheSendSync as Seats
 use Rattle.head_series.proofs.heap.Heap.TheLaws.TheKnot as Knot
 use Rattle.head_series.proofs.interner.Interner.TheSendSync as Interner
@@ -26,4 +25,4 @@ resolver_sync = search (sendable, crosses, table_sync) depth 30
 
 pub work_and_scan-requires-send-J : goal.work_and_scan-requires-send-J
 work_and_scan-requires-send-J g c κs within =
-    search (sendable, crosses, resolver_sync, Changes.the_sync, Seats.the_sync, Items.the_send, Placed.the_send, Spreading.the_field_send) depth 20
+    search (sendable, crosses, resolver_sync, Changes.the_sync, Seats.the_sync, PageRecords.the_send, Spreading.the_field_send) depth 20

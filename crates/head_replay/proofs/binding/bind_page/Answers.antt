@@ -1,50 +1,52 @@
-use Rattle.std.proofs.Common.{rules, ◌≡◌, ◌∙◌, ◌++◌, ◌+◌, [], Err, List, arith, drop, length, sym, ap, subst, take, ◌∷◌}
-use Rattle.std.proofs.lemmas.List.{take_all, take_more}
+use Rattle.std.proofs.Common.{rules, ◌≡◌, ◌∙◌, ◌++◌, ◌+◌, ℕ, [], Err, IfOk, List, arith, length, length-append, sym, ap, subst, append_assoc}
+use Rattle.std.proofs.lemmas.List.{length-map}
 use Rattle.wal_record.specs.declared.record.WalRecord.{WalRecord}
 use Rattle.wal_log.specs.declared.reading.Placed.{Placed}
 use Rattle.wal_log.specs.Log.{contents}
 use Rattle.head_core.specs.Ahead.{IsAhead}
 use Rattle.head_core.specs.Content.{IsWithinLimits}
-use Rattle.head_core.specs.Resolved.{IsResolvable}
 use Rattle.head_core.specs.Taken.{taken_of}
 use Rattle.head_core.specs.declared.fault.HeadFault.TheVariants.{Full}
-use Rattle.head_replay.proofs.Ahead.{contents_more, contents_next, length_so_far, taken_window}
+use Rattle.head_replay.proofs.Pages.{parts_behind, parts_count, rest_behind, samples_bind_nothing}
 use Rattle.head_replay.proofs.binding.bind_page.Goals as goal
 
-pub returns-in_err-bind_ahead-clause-full : goal.returns-in_err-bind_ahead-clause-full
-returns-in_err-bind_ahead-clause-full c = λ e m rs back h time at w.
-    let full : c.bind_ahead.result ≡ Err Full = search rules in
-    let i = c.loop-placed.placed-index in
-    let placed : Placed = c.placed-item.result in
-    let next : take (i + 1) c.args.records.now ≡ take i c.args.records.now ++ placed ∷ [] = take_more c.args.records.now i placed c.loop-placed-test.true ∙ ap (λ (p : Placed). take i c.args.records.now ++ p ∷ []) (sym c.placed-item.is) in
-    let so_far = c.loop-placed.invariant in
-    let bound = so_far.1 m rs back h at in
-    let here : c.loop-placed.place ≡ length (back ++ contents (take i c.args.records.now)) = so_far.0 ∙ ap (λ n. n + i) at ∙ sym (length_so_far back c.args.records.now i c.loop-placed.auto.placed-index-end) in
-    let same = so_far.4 ∙ time in
-    let within = c.limits_hold_before.ensures.front m (rs ++ ((back ++ contents (take i c.args.records.now)) ++ placed.content ∷ [])) (contents (drop (i + 1) c.args.records.now))
-    (subst (λ (ss : List WalRecord). IsWithinLimits (taken_of m ss)) (contents_next rs back c.args.records.now i placed next) w) in
-    c.bind_ahead.ensures.full full (taken_of m rs) [] (back ++ contents (take i c.args.records.now)) bound
-    (subst IsResolvable (sym (taken_window c.spread_records.ensures.taken c.loop-placed.resolver.min_valid m rs ((back ++ contents (take i c.args.records.now)) ++ placed.content ∷ []) same)) (c.limits_hold_before.ensures.resolvable _ within))
+pub returns-in_err-first-clause-full : goal.returns-in_err-first-clause-full
+returns-in_err-first-clause-full c = λ e m rs back h time at w.
+    let full : c.bind_records.result ≡ Err Full = search rules in
+    let before : List Placed = c.parts.result.0.now in
+    let samples : List Placed = c.parts.result.1.now in
+    let behind : List Placed = c.parts.result.2.now in
+    let all : (rs ++ (back ++ contents before)) ++ (contents samples ++ contents behind) ≡ rs ++ (back ++ contents c.args.page.now) =
+    append_assoc rs (back ++ contents before) (contents samples ++ contents behind) ∙ ap (λ (ss : List WalRecord). rs ++ ss) (rest_behind back c.args.page.now before samples behind c.parts.ensures) in
+    c.bind_records.ensures.full full m rs back h time at
+    (c.limits_hold_before.ensures.front m (rs ++ (back ++ contents before)) (contents samples ++ contents behind) (subst (λ (ss : List WalRecord). IsWithinLimits (taken_of m ss)) (sym all) w))
 
-pub loop-placed-preserved : goal.loop-placed-preserved
-loop-placed-preserved c =
-    let i = c.loop-placed.placed-index in
-    let placed : Placed = c.placed-item.result in
-    let next : take (i + 1) c.args.records.now ≡ take i c.args.records.now ++ placed ∷ [] = take_more c.args.records.now i placed c.loop-placed-test.true ∙ ap (λ (p : Placed). take i c.args.records.now ++ p ∷ []) (sym c.placed-item.is) in
-    let so_far = c.loop-placed.invariant in (
-      (search rules),
-      λ m rs back h at.
-          (let bound = so_far.1 m rs back h at in
-          let here : c.loop-placed.place ≡ length (back ++ contents (take i c.args.records.now)) = so_far.0 ∙ ap (λ n. n + i) at ∙ sym (length_so_far back c.args.records.now i c.loop-placed.auto.placed-index-end) in
-          subst (λ (ss : List WalRecord). IsAhead (taken_of m rs) [] ss c.bind_ahead.new.changes c.bind_ahead.new.self) (contents_more back c.args.records.now i placed next)
-          (c.in_ok-bind_ahead.ensures.ahead (taken_of m rs) [] (back ++ contents (take i c.args.records.now)) bound here)),
-      λ n le below. c.in_ok-bind_ahead.ensures.below n le (so_far.2 n (omega (arith, c.bind_ahead.ensures.more, le)) below),
-      omega (arith, so_far.3, c.bind_ahead.ensures.more),
-      c.bind_ahead.ensures.time ∙ so_far.4,
-      c.in_ok-bind_ahead.ensures.sound,
-    )
+-- the place of the last part
+behind_at : (back : List WalRecord) (before samples : List Placed) (place first next : ℕ) → place ≡ length back → first ≡ place + length before → next ≡ first + length samples
+    → next ≡ length ((back ++ contents before) ++ contents samples)
+behind_at back before samples place first next at one two =
+    omega (arith, at, one, two, length-append (back ++ contents before) (contents samples), length-append back (contents before), length-map before (λ (p : Placed). p.content), length-map samples (λ (p : Placed). p.content))
 
 pub returns-clause-ahead : goal.returns-clause-ahead
 returns-clause-ahead c = λ m rs back h at.
-    subst (λ (ps : List Placed). IsAhead (taken_of m rs) [] (back ++ contents ps) c.loop-placed.changes c.loop-placed.resolver) (take_all c.loop-placed.placed-index c.args.records.now c.loop-placed-test.false)
-    (c.loop-placed.invariant.1 m rs back h at)
+    let before : List Placed = c.parts.result.0.now in
+    let samples : List Placed = c.parts.result.1.now in
+    let behind : List Placed = c.parts.result.2.now in
+    let front : List WalRecord = (back ++ contents before) ++ contents samples in
+    let added = rw c.in-Some.is at c.checked_add.ensures in
+    let next : c.in-Some.next ≡ c.in_ok-first.first + length samples = added.1 ∙ ap (λ n. c.in_ok-first.first + n) c.len.ensures.count in
+    let bound = c.spread_ahead.ensures.quiet (taken_of m rs) [] (back ++ contents before) (contents samples) c.bind_records.new.changes c.bind_records.new.resolver (c.in_ok-first.ensures.ahead m rs back h at) (samples_bind_nothing (contents samples) c.len.ensures.samples) in
+    subst (λ (ss : List WalRecord). IfOk c.bind_records-2.result (λ _. IsAhead (taken_of m rs) [] ss c.bind_records-2.new.changes c.bind_records-2.new.resolver)) (parts_behind back c.args.page.now before samples behind c.parts.ensures)
+    (c.bind_records-2.ensures.ahead m rs front bound (behind_at back before samples c.args.place c.in_ok-first.first c.in-Some.next at c.in_ok-first.ensures.place next))
+
+pub returns-clause-full : goal.returns-clause-full
+returns-clause-full c = λ e m rs back h time at w.
+    let before : List Placed = c.parts.result.0.now in
+    let samples : List Placed = c.parts.result.1.now in
+    let behind : List Placed = c.parts.result.2.now in
+    let front : List WalRecord = (back ++ contents before) ++ contents samples in
+    let added = rw c.in-Some.is at c.checked_add.ensures in
+    let next : c.in-Some.next ≡ c.in_ok-first.first + length samples = added.1 ∙ ap (λ n. c.in_ok-first.first + n) c.len.ensures.count in
+    let bound = c.spread_ahead.ensures.quiet (taken_of m rs) [] (back ++ contents before) (contents samples) c.bind_records.new.changes c.bind_records.new.resolver (c.in_ok-first.ensures.ahead m rs back h at) (samples_bind_nothing (contents samples) c.len.ensures.samples) in
+    c.bind_records-2.ensures.full e m rs front bound (c.bind_records.ensures.time ∙ time) (behind_at back before samples c.args.place c.in_ok-first.first c.in-Some.next at c.in_ok-first.ensures.place next)
+    (subst (λ (ss : List WalRecord). IsWithinLimits (taken_of m (rs ++ ss))) (sym (parts_behind back c.args.page.now before samples behind c.parts.ensures)) w)

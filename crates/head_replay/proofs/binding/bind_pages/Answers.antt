@@ -15,20 +15,20 @@ use Rattle.head_replay.proofs.binding.bind_pages.Goals as goal
 pub returns-in_err-place-clause-full : goal.returns-in_err-place-clause-full
 returns-in_err-place-clause-full c = λ e m rs h time w.
     let full : c.bind_page.result ≡ Err Full = search rules in
-    let i = c.loop-records.records-index in
-    let page : List Placed = c.as_slice.result.now in
-    let next : take (i + 1) c.args.pages.now ≡ take i c.args.pages.now ++ page ∷ [] = take_more c.args.pages.now i c.records-item.result c.loop-records-test.true ∙ ap (λ (p : List Placed). take i c.args.pages.now ++ p ∷ []) (sym c.records-item.is ∙ sym c.as_slice.ensures) in
-    let so_far = c.loop-records.invariant in
+    let i = c.loop-page.page-index in
+    let page : List Placed = c.page-item.result in
+    let next : take (i + 1) c.args.pages.now ≡ take i c.args.pages.now ++ page ∷ [] = take_more c.args.pages.now i c.page-item.result c.loop-page-test.true ∙ ap (λ (p : List Placed). take i c.args.pages.now ++ p ∷ []) (sym c.page-item.is) in
+    let so_far = c.loop-page.invariant in
     let within = c.limits_hold_before.ensures.front m (rs ++ (contents (records_of (take i c.args.pages.now)) ++ contents page)) (contents (records_of (drop (i + 1) c.args.pages.now)))
     (subst (λ (ss : List WalRecord). IsWithinLimits (taken_of m ss)) (pages_next rs c.args.pages.now i page next) w) in
     c.bind_page.ensures.full full m rs (contents (records_of (take i c.args.pages.now))) (so_far.1 m rs h) (so_far.4 ∙ time) (so_far.0 ∙ sym (length_said (records_of (take i c.args.pages.now)))) within
 
-pub loop-records-preserved : goal.loop-records-preserved
-loop-records-preserved c =
-    let i = c.loop-records.records-index in
-    let page : List Placed = c.as_slice.result.now in
-    let next : take (i + 1) c.args.pages.now ≡ take i c.args.pages.now ++ page ∷ [] = take_more c.args.pages.now i c.records-item.result c.loop-records-test.true ∙ ap (λ (p : List Placed). take i c.args.pages.now ++ p ∷ []) (sym c.records-item.is ∙ sym c.as_slice.ensures) in
-    let so_far = c.loop-records.invariant in
+pub loop-page-preserved : goal.loop-page-preserved
+loop-page-preserved c =
+    let i = c.loop-page.page-index in
+    let page : List Placed = c.page-item.result in
+    let next : take (i + 1) c.args.pages.now ≡ take i c.args.pages.now ++ page ∷ [] = take_more c.args.pages.now i c.page-item.result c.loop-page-test.true ∙ ap (λ (p : List Placed). take i c.args.pages.now ++ p ∷ []) (sym c.page-item.is) in
+    let so_far = c.loop-page.invariant in
     let many : length (records_of (take (i + 1) c.args.pages.now)) ≡ length (records_of (take i c.args.pages.now)) + length page =
     ap (λ (ps : List (List Placed)). length (records_of ps)) next ∙ ap length (records_push (take i c.args.pages.now) page) ∙ length-append (records_of (take i c.args.pages.now)) page in (
       omega (arith, so_far.0, c.in_ok-place.ensures.place, many),
@@ -43,5 +43,5 @@ loop-records-preserved c =
 
 pub returns-clause-ahead : goal.returns-clause-ahead
 returns-clause-ahead c = λ m rs h.
-    subst (λ (ps : List (List Placed)). IsAhead (taken_of m rs) [] (contents (records_of ps)) c.loop-records.changes c.loop-records.resolver) (take_all c.loop-records.records-index c.args.pages.now c.loop-records-test.false)
-    (c.loop-records.invariant.1 m rs h)
+    subst (λ (ps : List (List Placed)). IsAhead (taken_of m rs) [] (contents (records_of ps)) c.loop-page.changes c.loop-page.resolver) (take_all c.loop-page.page-index c.args.pages.now c.loop-page-test.false)
+    (c.loop-page.invariant.1 m rs h)

@@ -8,9 +8,9 @@ use Rattle.head_replay.specs.Records.{records_of}
 use Rattle.head_replay.specs.Shares.{slots_of}
 use Rattle.head_replay.proofs.spreading.Spreading.add_pages.Given as goal
 
-abbrev pub invariant-loop-records : goal.invariant-loop-records
-invariant-loop-records l =
-    ((done : List (List Placed)) × (done ++ into_iter_items l.records-iterator ≡ l.fn.pages.items) × (l.place ≡ l.fn.place + length (records_of done))
+abbrev pub invariant-loop-page : goal.invariant-loop-page
+invariant-loop-page l =
+    ((done : List (List Placed)) × (done ++ into_iter_items l.page-iterator ≡ l.fn.pages.items) × (l.place ≡ l.fn.place + length (records_of done))
     × ((first : ℕ) (rs : List WalRecord) → AreSpreadAt l.resolver.min_valid (slots_of l.resolver l.changes) first rs l.fn.self.spread.items l.fn.self.counts → l.fn.place ≡ first + length rs
     → AreSpreadAt l.resolver.min_valid (slots_of l.resolver l.changes) first (rs ++ contents (records_of done)) l.self.spread.items l.self.counts))
     × (l.self.spread.workers ≡ l.fn.self.spread.workers)

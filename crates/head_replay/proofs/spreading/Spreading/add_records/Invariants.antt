@@ -5,7 +5,7 @@ use Rattle.wal_log.specs.declared.reading.Placed.{Placed}
 use Rattle.wal_log.specs.Log.{contents}
 use Rattle.head_core.specs.Ahead.{AreSpreadAt}
 use Rattle.head_replay.specs.Shares.{slots_of}
-use Rattle.head_replay.proofs.spreading.Spreading.add_page.Given as goal
+use Rattle.head_replay.proofs.spreading.Spreading.add_records.Given as goal
 
 abbrev pub invariant-loop-placed : goal.invariant-loop-placed
 invariant-loop-placed l =

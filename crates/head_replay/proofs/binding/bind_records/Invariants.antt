@@ -4,7 +4,7 @@ use Rattle.wal_log.specs.Log.{contents}
 use Rattle.head_core.specs.Ahead.{IsAhead}
 use Rattle.head_core.specs.Changes.{AreBelow}
 use Rattle.head_core.specs.Taken.{taken_of}
-use Rattle.head_replay.proofs.binding.bind_page.Given as goal
+use Rattle.head_replay.proofs.binding.bind_records.Given as goal
 
 -- the records so far are bound
 abbrev pub invariant-loop-placed : goal.invariant-loop-placed
