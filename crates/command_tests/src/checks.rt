@@ -1,13 +1,17 @@
 //! What tests hold against what is wanted.
 
 use crate::shelf::Shelf;
-use prom_store::{Store, StoreFault};
+use prom_store::{Reason, Store, StoreFault};
 use std::alloc::Global;
 use std::fmt::Debug;
+use std::io::ErrorKind;
 use std::process::Abort;
 
 /// The name of all blocks of the tests.
 pub const ULID: &str = "01ARZ3NDEKTSV4RRFFQ69G5FAV";
+
+/// A store refused, and does not say why.
+pub const UNSAID: StoreFault = StoreFault::Refused(Reason::Other(ErrorKind::Other));
 
 /// Ends the test where what a case gives is not what it is to give.
 pub fn same<C: Debug + Drop, T: PartialEq + Debug + Drop>(

@@ -1,6 +1,6 @@
 //! Commands over a store of which one call fails. What they print and leave where none fails is in examples/cases.
 
-use crate::checks::{assert_names, same};
+use crate::checks::{UNSAID, assert_names, same};
 use crate::fragments::*;
 use crate::runs::{
     APPEND, CHECKPOINT, CUT, Case, Left, OPTIONS, OUT_OF_MEMORY, carried_out, complaint,
@@ -10,7 +10,7 @@ use block_commands::BlockRequest;
 use head_replay::NoGate;
 use prom_commands::Request;
 use prom_line::Asked;
-use prom_store::StoreFault;
+use prom_store::{InspectRequest, StoreFault};
 use std::process::Abort;
 use std::sync::Wait;
 use std::thread::Threads;
@@ -62,12 +62,12 @@ fn assert_each<R: Abort + Threads + Wait + Sync + AllocGlobal>(
 ) -> Result<(), StoreFault> {
     for (call, (said, names)) in (1..).zip(calls) {
         let refused = ((3, "", *said), *names);
-        assert_calls(rt, case, (call, StoreFault::Refused), refused, call)?;
+        assert_calls(rt, case, (call, UNSAID), refused, call)?;
         let out = (OUT_OF_MEMORY, *names);
         assert_calls(rt, case, (call, StoreFault::OutOfMemory), out, call)?;
     }
     let all = calls.len() as u64;
-    let past = (all.saturating_add(1), StoreFault::Refused);
+    let past = (all.saturating_add(1), UNSAID);
     assert_calls(rt, case, past, done, all)
 }
 
@@ -100,6 +100,40 @@ fn each_read_of_a_log_fails(rt: HostRuntime) -> Result<(), StoreFault> {
     let listed = "checkpoint 00000000 0 skipped 0\nsegment 00000005 0 skipped 0\n\
         damage segment 00000006 offset 0 kind 3 BadType\n";
     assert_each(&rt, &RECORDS, &calls, ((1, listed, ""), names))
+}
+
+// The same log, file by file.
+const INSPECT: Case = Case {
+    asked: Asked::Inspect(InspectRequest {
+        dir: "log",
+        json: false,
+    }),
+    ..RECORDS
+};
+
+const INSPECTED: &str = "\
+checkpoint 00000000 bytes 7 pages 1 series 0 0 samples 0 0 deletions 0 0 skipped 1 empty 1 first none last none damage none
+segment 00000005 bytes 7 pages 1 series 0 0 samples 0 0 deletions 0 0 skipped 1 empty 1 first none last none damage none
+segment 00000006 bytes 1 pages 1 series 0 0 samples 0 0 deletions 0 0 skipped 0 first none last none damage offset 0 kind 3 BadType
+segment 00000007 bytes 1 pages 1 series 0 0 samples 0 0 deletions 0 0 skipped 0 first none last none damage offset 0 kind 3 BadType
+all files 4 bytes 16 pages 4 series 0 0 samples 0 0 deletions 0 0 skipped 2 first none last none
+note segment 00000006 is damaged at 0: what follows in the file was not read
+note segment 00000007 is damaged at 0: what follows in the file was not read
+";
+
+// Files are read one after another, also those behind one that is damaged.
+#[test]
+fn each_read_of_an_inspection_fails(rt: HostRuntime) -> Result<(), StoreFault> {
+    let names = " 00000000";
+    let calls = [
+        ("cannot read log", names),
+        ("cannot read log/checkpoint.00000004", names),
+        ("cannot read log/checkpoint.00000004/00000000", names),
+        ("cannot read log/00000005", names),
+        ("cannot read log/00000006", names),
+        ("cannot read log/00000007", names),
+    ];
+    assert_each(&rt, &INSPECT, &calls, ((1, INSPECTED, ""), names))
 }
 
 // None of the parts is what it should be.
@@ -206,10 +240,7 @@ const CALLS_OF_APPEND: [(u64, Left, Left, u64); 11] = [
 #[test]
 fn each_call_of_append_fails(rt: HostRuntime) -> Result<(), StoreFault> {
     for (call, refused, out, calls) in CALLS_OF_APPEND {
-        for (fault, left) in [
-            (StoreFault::Refused, refused),
-            (StoreFault::OutOfMemory, out),
-        ] {
+        for (fault, left) in [(UNSAID, refused), (StoreFault::OutOfMemory, out)] {
             let names = if left == APPENDED {
                 " 00000000 00000001"
             } else {

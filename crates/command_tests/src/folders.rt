@@ -1,6 +1,6 @@
 //! Blocks written into folders, and read from them.
 
-use crate::checks::{ULID, assert_names, same};
+use crate::checks::{ULID, UNSAID, assert_names, same};
 use crate::shelf::Shelf;
 use block_commands::{read_parts, write_block};
 use block_read::{Block, Ulid};
@@ -61,7 +61,7 @@ fn said(alloc: Global, outcome: &Result<(), Fault>) -> Result<String, AllocError
 // Writes parts into `out`, and gives what is said.
 fn write(alloc: Global, shelf: &mut Shelf, block: &Block) -> Result<String, StoreFault> {
     let Ok(ulid) = Ulid::new(ULID) else {
-        return Err(StoreFault::Refused);
+        return Err(UNSAID);
     };
     // for the proof: what holds of every ULID
     ulid.as_bytes();
@@ -80,7 +80,7 @@ fn write_failing(alloc: Global, failure: (u64, StoreFault)) -> Result<(Shelf, St
 
 #[test]
 fn written_and_read(rt: HostRuntime) -> Result<(), StoreFault> {
-    let (mut shelf, said) = write_failing(rt.alloc(), (0, StoreFault::Refused))?;
+    let (mut shelf, said) = write_failing(rt.alloc(), (0, UNSAID))?;
     same(&rt, "said", said.as_str(), "");
     same(&rt, "calls", shelf.calls(), Ok(22));
     assert_names(&rt, &shelf, "out", " 01ARZ3NDEKTSV4RRFFQ69G5FAV")?;
@@ -159,7 +159,7 @@ fn assert_write_fails<R: Abort + AllocGlobal>(
 fn each_call_of_writing_fails(rt: HostRuntime) -> Result<(), StoreFault> {
     for (call, path) in CALLS {
         let said = format!(in rt.alloc(); "cannot write out/{path}")?;
-        assert_write_fails(&rt, call, StoreFault::Refused, &said)?;
+        assert_write_fails(&rt, call, UNSAID, &said)?;
         assert_write_fails(&rt, call, StoreFault::OutOfMemory, "out of memory")?;
     }
     Ok(())

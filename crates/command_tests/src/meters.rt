@@ -10,7 +10,7 @@ use live_commands::AppendRequest;
 use prom_commands::{Meter, Progress, Request, carry_out};
 use prom_figures::Extent;
 use prom_line::Asked;
-use prom_store::StoreFault;
+use prom_store::{AnalyzeRequest, DumpRequest, StoreFault};
 use std::alloc::Global;
 use std::cell::{Cell, RefCell};
 use std::fmt::Display;
@@ -243,7 +243,7 @@ const BY_THREE: Options = Options {
 };
 
 // Each command that replays a log.
-const REPLAYS: [Asked<'static>; 5] = [
+const REPLAYS: [Asked<'static>; 7] = [
     Asked::OfLog(Request::Replay {
         dir: "log",
         options: BY_THREE,
@@ -251,6 +251,21 @@ const REPLAYS: [Asked<'static>; 5] = [
     Asked::OfLog(Request::Series {
         dir: "log",
         pair: None,
+        options: BY_THREE,
+    }),
+    Asked::Analyze(AnalyzeRequest {
+        dir: "log",
+        most: 10,
+        bars: false,
+        options: BY_THREE,
+    }),
+    Asked::Dump(DumpRequest {
+        dir: "log",
+        pair: None,
+        from: i64::MIN,
+        to: i64::MAX,
+        floats: false,
+        hidden: false,
         options: BY_THREE,
     }),
     Asked::OfBlocks(BlockRequest::Ranges {
@@ -267,6 +282,7 @@ const REPLAYS: [Asked<'static>; 5] = [
     Asked::Append(AppendRequest {
         dir: "log",
         rows: "rows",
+        floats: false,
         options: BY_THREE,
     }),
 ];

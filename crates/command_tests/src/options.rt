@@ -7,7 +7,7 @@ use head_replay::Options;
 use live_commands::{AppendRequest, CheckpointRequest};
 use prom_commands::Request;
 use prom_line::{Asked, parse};
-use prom_store::Fault;
+use prom_store::{AnalyzeRequest, DumpRequest, Fault};
 use std::alloc::{AllocError, Global};
 use std::process::Abort;
 
@@ -90,12 +90,38 @@ fn options_of_each_command(rt: HostRuntime) -> Result<(), AllocError> {
             Asked::OfBlocks(BlockRequest::Ranges { dir, options }),
         ),
         (
-            "cut log --hour=-1 --ulid=01ARZ3NDEKTSV4RRFFQ69G5FAV --out=out",
+            "cut log --hour -1 --ulid=01ARZ3NDEKTSV4RRFFQ69G5FAV --out=out",
             Asked::OfBlocks(BlockRequest::Cut(cut)),
         ),
         (
+            "analyze log --most 3",
+            Asked::Analyze(AnalyzeRequest {
+                dir,
+                most: 3,
+                bars: false,
+                options,
+            }),
+        ),
+        (
+            "dump log --from=-7 --to 8 --floats",
+            Asked::Dump(DumpRequest {
+                dir,
+                pair: None,
+                from: -7,
+                to: 8,
+                floats: true,
+                hidden: false,
+                options,
+            }),
+        ),
+        (
             "append log --rows=rows",
-            Asked::Append(AppendRequest { dir, rows, options }),
+            Asked::Append(AppendRequest {
+                dir,
+                rows,
+                floats: false,
+                options,
+            }),
         ),
     ] {
         let line = format!(in rt.alloc();
@@ -120,7 +146,7 @@ const FAULTS: [(Fault, u8, &str); 16] = [
     (Fault::NotFull, 3, "hour not full"),
     (Fault::NoSamples, 3, "no samples in hour"),
     (Fault::NoLog, 3, "no log to keep"),
-    (Fault::Gap, 3, "gap in segment numbers"),
+    (Fault::Gap(None), 3, "gap in segment numbers"),
     (Fault::TooLarge, 3, "too large"),
     (Fault::Full, 3, "too many series"),
     (Fault::RefsSpent, 3, "references spent"),

@@ -8,10 +8,12 @@ use head_replay::Options;
 use live_commands::{AppendRequest, CheckpointRequest, carry_out_append, carry_out_checkpoint};
 use prom_commands::{Answer, Progress, carry_out};
 use prom_line::Asked;
-use prom_store::{Store, StoreFault};
+use prom_store::{AnalyzeRequest, DumpRequest, Store, StoreFault};
+use query_commands::{carry_out_analyze, carry_out_dump};
 use std::alloc::{AllocError, Global};
 use std::sync::Wait;
 use std::thread::Threads;
+use survey_commands::carry_out_inspect;
 
 /// How logs are replayed. What is found does not depend on it.
 pub const OPTIONS: [Options; 4] = [
@@ -78,6 +80,8 @@ pub fn replayed_by(asked: Asked<'_>, options: Options) -> Asked<'_> {
             Asked::OfBlocks(BlockRequest::Cut(CutRequest { options, ..request }))
         }
         Asked::Append(request) => Asked::Append(AppendRequest { options, ..request }),
+        Asked::Analyze(request) => Asked::Analyze(AnalyzeRequest { options, ..request }),
+        Asked::Dump(request) => Asked::Dump(DumpRequest { options, ..request }),
         asked => asked,
     }
 }
@@ -92,6 +96,9 @@ pub fn carried_out<R: Threads + Wait + Sync + AllocGlobal, S: Store, P: Progress
     let alloc = rt.alloc();
     match asked {
         Asked::OfLog(request) => carry_out(rt, alloc, store, progress, request),
+        Asked::Inspect(request) => carry_out_inspect(alloc, store, request),
+        Asked::Analyze(request) => carry_out_analyze(rt, alloc, store, progress, request),
+        Asked::Dump(request) => carry_out_dump(rt, alloc, store, progress, request),
         Asked::OfBlocks(request) => carry_out_block(rt, alloc, store, progress, request),
         Asked::Append(request) => carry_out_append(rt, alloc, store, progress, request),
         Asked::Checkpoint(request) => carry_out_checkpoint(alloc, store, request),
@@ -134,6 +141,7 @@ pub const APPEND: Case = Case {
     asked: Asked::Append(AppendRequest {
         dir: "log",
         rows: "rows",
+        floats: false,
         options: ANY,
     }),
     dir: "log",

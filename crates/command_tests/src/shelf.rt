@@ -2,6 +2,7 @@
 
 ghost use Rattle.std.specs.Prelude.{⊤};
 
+use crate::checks::UNSAID;
 use crate::tree::{Kept, Tree};
 use prom_store::{Store, StoreFault};
 use std::alloc::Global;
@@ -58,7 +59,7 @@ impl Contents {
 }
 
 fn open(contents: &RefCell<Contents>) -> Result<RefMut<'_, Contents>, StoreFault> {
-    contents.try_borrow_mut().map_err(|_| StoreFault::Refused)
+    contents.try_borrow_mut().map_err(|_| UNSAID)
 }
 
 // Opens the contents for a call, which is counted.
@@ -121,7 +122,7 @@ impl Shelf {
     pub fn stop(&mut self, call: u64) -> Result<(), StoreFault> {
         open(&self.contents)?.failure = Some(Failure {
             call,
-            fault: StoreFault::Refused,
+            fault: UNSAID,
             lasts: true,
         });
         Ok(())

@@ -1,15 +1,15 @@
 //! Each call of both stores.
 
-use crate::checks::{names, same};
+use crate::checks::{UNSAID, names, same};
 use crate::shelf::Shelf;
-use prom_store::{Disk, Store, StoreFault, names_of, read_whole};
+use prom_store::{Disk, Reason, Store, StoreFault, names_of, read_whole};
 use std::alloc::Global;
 use std::io::{ErrorKind, Read};
 use std::process::Abort;
 use std::test::Fail;
 use std::{env, fs, io, process};
 
-const REFUSED: Result<&str, StoreFault> = Err(StoreFault::Refused);
+const REFUSED: Result<&str, StoreFault> = Err(UNSAID);
 
 const DONE: Result<&str, StoreFault> = Ok("");
 
@@ -93,12 +93,20 @@ const CALLS: [(Call, Result<&str, StoreFault>); 22] = [
     (Call::ReadDir(""), Ok(" 2")),
 ];
 
+// The fault without its reason.
+fn unsaid(fault: StoreFault) -> StoreFault {
+    match fault {
+        StoreFault::Refused(_) => UNSAID,
+        StoreFault::OutOfMemory => StoreFault::OutOfMemory,
+    }
+}
+
 fn assert_calls<R: Abort + AllocGlobal, S: Store>(rt: &R, store: &mut S, dir: &str) {
     for (call, wanted) in CALLS {
         let found = make(rt.alloc(), store, dir, call);
         let told = match &found {
             Ok(text) => Ok(text.as_str()),
-            Err(fault) => Err(*fault),
+            Err(fault) => Err(unsaid(*fault)),
         };
         same(rt, call, told, wanted);
     }
@@ -163,16 +171,16 @@ fn files_side_by_side(rt: HostRuntime) -> Result<(), Fail> {
         let (mut paths, wanted) = make_files(&rt, &dir, lengths)?;
         let found = disk.read_files(alloc, &paths);
         assert!(rt; found.is_ok_and(|found| found == wanted), "{lengths:?}");
-        for name in ["none", ""] {
-            paths.push(format!(in alloc; "{dir}/{name}")?)?;
+        // neither is there, and a directory is not a file
+        for (name, reason) in [("", Reason::NotAFile), ("none", Reason::System(2))] {
+            paths.truncate(lengths.len());
+            for name in [name, "none"] {
+                paths.push(format!(in alloc; "{dir}/{name}")?)?;
+            }
+            let refused = disk.read_files(alloc, &paths).err();
+            let wanted = (lengths.len(), StoreFault::Refused(reason));
+            same(&rt, name, refused, Some(wanted));
         }
-        let refused = disk.read_files(alloc, &paths).err();
-        same(
-            &rt,
-            "refused",
-            refused,
-            Some((lengths.len(), StoreFault::Refused)),
-        );
     }
     fs::remove_dir_all(&rt, &dir)?;
     Ok(())
@@ -181,7 +189,7 @@ fn files_side_by_side(rt: HostRuntime) -> Result<(), Fail> {
 // Writes three words, of which the second is the third call of the shelf, and fails. Gives what the file then holds.
 fn written(alloc: Global, shelf: &mut Shelf) -> Result<String, StoreFault> {
     let mut writer = shelf.create_new("new")?;
-    shelf.fail(3, StoreFault::Refused)?;
+    shelf.fail(3, UNSAID)?;
     shelf.write(&mut writer, b"one ")?;
     let _ = shelf.write(&mut writer, b"two ");
     shelf.write(&mut writer, b"three")?;
@@ -230,9 +238,9 @@ const LENGTHS: [u64; 6] = [0, 1, 3, 4, 5, 100_000];
 // The read to fail, how, and what becomes of reading the four bytes.
 const FAILING: [(u64, ErrorKind, Result<&[u8], StoreFault>); 6] = [
     (0, ErrorKind::Other, Ok(b"abcd")),
-    (1, ErrorKind::Other, Err(StoreFault::Refused)),
-    (3, ErrorKind::Other, Err(StoreFault::Refused)),
-    (5, ErrorKind::Other, Err(StoreFault::Refused)),
+    (1, ErrorKind::Other, Err(UNSAID)),
+    (3, ErrorKind::Other, Err(UNSAID)),
+    (5, ErrorKind::Other, Err(UNSAID)),
     (3, ErrorKind::OutOfMemory, Err(StoreFault::OutOfMemory)),
     (3, ErrorKind::Interrupted, Ok(b"abcd")),
 ];
@@ -283,7 +291,7 @@ fn many_reads(rt: HostRuntime) -> Result<(), StoreFault> {
     let bytes: Vec<u8> = (0..100_000u32)
         .map(|i| (i % 251) as u8)
         .collect(rt.alloc())?;
-    for (fails_at, wanted) in [(0, Ok(100_000)), (3, Err(StoreFault::Refused))] {
+    for (fails_at, wanted) in [(0, Ok(100_000)), (3, Err(UNSAID))] {
         let mut reader = Faulty {
             rest: bytes.as_slice(),
             reads: 0,
@@ -303,16 +311,12 @@ fn names_of_entries(rt: HostRuntime) -> Result<(), StoreFault> {
     for unread in [0, 1, 2, 3] {
         let entries = (0..3).map(|entry| {
             if entry == unread {
-                return Err(StoreFault::Refused);
+                return Err(UNSAID);
             }
             Ok(format!(in alloc; "{entry}")?)
         });
         let found = names_of(alloc, entries);
-        let wanted = if unread == 3 {
-            Ok(3)
-        } else {
-            Err(StoreFault::Refused)
-        };
+        let wanted = if unread == 3 { Ok(3) } else { Err(UNSAID) };
         same(&rt, unread, found.map(|names| names.len()), wanted);
     }
     Ok(())

@@ -1,5 +1,6 @@
 //! Directories and files in memory, with what of them was synced.
 
+use crate::checks::UNSAID;
 use prom_store::StoreFault;
 use std::alloc::{AllocError, Global};
 use std::mem::replace;
@@ -124,17 +125,17 @@ impl Tree {
     }
 
     fn directory(&self, path: &str) -> Result<usize, StoreFault> {
-        let node = self.node(path).ok_or(StoreFault::Refused)?;
+        let node = self.node(path).ok_or(UNSAID)?;
         match self.nodes.get(node) {
             Some(Node::Directory) => Ok(node),
-            _ => Err(StoreFault::Refused),
+            _ => Err(UNSAID),
         }
     }
 
     fn file(&mut self, node: Option<usize>) -> Result<&mut File, StoreFault> {
-        match self.nodes.get_mut(node.ok_or(StoreFault::Refused)?) {
+        match self.nodes.get_mut(node.ok_or(UNSAID)?) {
             Some(Node::File(file)) => Ok(file),
-            _ => Err(StoreFault::Refused),
+            _ => Err(UNSAID),
         }
     }
 
@@ -167,7 +168,7 @@ impl Tree {
     fn add(&mut self, path: &str, made: Node) -> Result<usize, StoreFault> {
         let (parent, name) = self.place(path)?;
         if self.child(parent, name).is_some() {
-            return Err(StoreFault::Refused);
+            return Err(UNSAID);
         }
         let name = String::from_str(self.alloc, name)?;
         let node = self.nodes.len();
@@ -223,10 +224,10 @@ impl Tree {
     pub fn rename(&mut self, from: &str, to: &str) -> Result<(), StoreFault> {
         let (parent, name) = self.place(from)?;
         let (directory, to_name) = self.place(to)?;
-        let node = self.child(parent, name).ok_or(StoreFault::Refused)?;
+        let node = self.child(parent, name).ok_or(UNSAID)?;
         let replaced = self.child(directory, to_name);
         if parent != directory {
-            return Err(StoreFault::Refused);
+            return Err(UNSAID);
         }
         if replaced.is_some() {
             self.file(replaced)?;

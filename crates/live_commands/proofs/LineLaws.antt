@@ -69,31 +69,31 @@ line_joined g s t line step tests =
 -- ---- the rows that they spell
 
 -- rows are read of the text
-pub record AreReadUpTo (text : List ℕ) (rows : List Row) (left : List ℕ) : Type 0 where
+pub record AreReadUpTo (floats : Bool) (text : List ℕ) (rows : List Row) (left : List ℕ) : Type 0 where
   pub lines : List (List ℕ)
   pub whole : text ≡ lines_text lines ++ left
-  pub each : AllZip IsRowLine lines rows
+  pub each : AllZip (IsRowLine floats) lines rows
 
 -- no row is read yet
-pub none_read : (text : List ℕ) (raws : List RawRow) → raws ≡ [] → AreReadUpTo text (map row_of raws) text
-none_read text raws none = subst (λ (rs : List RawRow). AreReadUpTo text (map row_of rs) text) (sym none) (record { lines = []; whole = refl; each = tt })
+pub none_read : {floats : Bool} (text : List ℕ) (raws : List RawRow) → raws ≡ [] → AreReadUpTo floats text (map row_of raws) text
+none_read {floats} text raws none = subst (λ (rs : List RawRow). AreReadUpTo floats text (map row_of rs) text) (sym none) (record { lines = []; whole = refl; each = tt })
 
 -- one row more is read
-one_read : (text line left after : List ℕ) (rows : List Row) (row : Row) → AreReadUpTo text rows left → left ≡ (line ++ 10 ∷ []) ++ after → IsRowLine line row → AreReadUpTo text (rows ++ row ∷ []) after
-one_read text line left after rows row so_far cut is = record {
+one_read : {floats : Bool} (text line left after : List ℕ) (rows : List Row) (row : Row) → AreReadUpTo floats text rows left → left ≡ (line ++ 10 ∷ []) ++ after → IsRowLine floats line row → AreReadUpTo floats text (rows ++ row ∷ []) after
+one_read {floats} text line left after rows row so_far cut is = record {
   lines = so_far.lines ++ line ∷ [];
   whole =
       so_far.whole
       ∙ ap (λ (t : List ℕ). lines_text so_far.lines ++ t) cut
       ∙ sym (append_assoc (lines_text so_far.lines) (line ++ 10 ∷ []) after)
       ∙ ap (λ (t : List ℕ). t ++ after) (flat_map_more (λ (l : List ℕ). l ++ 10 ∷ []) [] so_far.lines line);
-  each = all_zipped_more IsRowLine so_far.lines rows line row so_far.each is;
+  each = all_zipped_more (IsRowLine floats) so_far.lines rows line row so_far.each is;
 }
 
 -- one row more is read and pushed
-pub row_pushed : (text line left after : List ℕ) (raws more : List RawRow) (raw : RawRow) → AreReadUpTo text (map row_of raws) left → left ≡ (line ++ 10 ∷ []) ++ after → IsRowLine line (row_of raw) → more ≡ raws ++ raw ∷ [] → AreReadUpTo text (map row_of more) after
-row_pushed text line left after raws more raw so_far cut is pushed =
-    subst (λ (rows : List Row). AreReadUpTo text rows after)
+pub row_pushed : {floats : Bool} (text line left after : List ℕ) (raws more : List RawRow) (raw : RawRow) → AreReadUpTo floats text (map row_of raws) left → left ≡ (line ++ 10 ∷ []) ++ after → IsRowLine floats line (row_of raw) → more ≡ raws ++ raw ∷ [] → AreReadUpTo floats text (map row_of more) after
+row_pushed {floats} text line left after raws more raw so_far cut is pushed =
+    subst (λ (rows : List Row). AreReadUpTo floats text rows after)
     (sym (ap (λ (rs : List RawRow). map row_of rs) pushed ∙ map_push (λ (r : RawRow). row_of r) raws raw))
     (one_read text line left after (map row_of raws) (row_of raw) so_far cut is)
 
@@ -111,7 +111,7 @@ either_whole text lines whole (inl is) e = inl (is ∙ e)
 either_whole text lines whole (inr is) e = inr (ap (λ (t : List ℕ). t ++ 10 ∷ []) is ∙ e)
 
 -- the rows that were read are those of the text
-pub text_read : (text lines before left : List ℕ) (rows : List Row) → (text ≡ lines ++ 10 ∷ []) ⊎ (text ≡ lines) → before ≡ lines ++ 10 ∷ [] → AreReadUpTo before rows left → left ≡ [] → AreRowsOf text rows
+pub text_read : {floats : Bool} (text lines before left : List ℕ) (rows : List Row) → (text ≡ lines ++ 10 ∷ []) ⊎ (text ≡ lines) → before ≡ lines ++ 10 ∷ [] → AreReadUpTo floats before rows left → left ≡ [] → AreRowsOf floats text rows
 text_read text lines before left rows stripped begin so_far none = record {
   lines = so_far.lines;
   whole = either_whole text lines (lines_text so_far.lines) stripped (sym begin ∙ so_far.whole ∙ ap (λ (t : List ℕ). lines_text so_far.lines ++ t) none ∙ append-nil (lines_text so_far.lines));
@@ -124,5 +124,5 @@ second_ended (inl a) not_first = absurd (not_first a)
 second_ended (inr b) not_first = b
 
 -- the rows of the text that was read at a path, once they are prepared
-pub rows_at : (found : List ℕ → Found → Type 0) (path text : List ℕ) (raw : List RawRow) (rows : List Row) → found path (Bytes text) → AreRowsOf text (map row_of raw) → rows ≡ map row_of raw → AreRowsAt found path rows
-rows_at found path text raw rows there of is = (text, there, subst (AreRowsOf text) (sym is) of)
+pub rows_at : {floats : Bool} (found : List ℕ → Found → Type 0) (path text : List ℕ) (raw : List RawRow) (rows : List Row) → found path (Bytes text) → AreRowsOf floats text (map row_of raw) → rows ≡ map row_of raw → AreRowsAt floats found path rows
+rows_at {floats} found path text raw rows there of is = (text, there, subst (AreRowsOf floats text) (sym is) of)

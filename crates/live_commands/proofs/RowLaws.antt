@@ -7,7 +7,7 @@ use Rattle.std.specs.List.{flat_map}
 use Rattle.std.specs.declared.str.Split.{Split}
 use Rattle.std.specs.Str.Iter.{split_has_more, split_pattern, split_steps, split_text}
 use Rattle.std.specs.Str.Pattern.{FindsChar}
-use Rattle.live_commands.specs.RowTexts.{IsNumberText, IsRowLine, label_word}
+use Rattle.live_commands.specs.RowTexts.{IsNumberText, IsRowLine, IsValueText, label_word}
 use Rattle.wal_record.specs.declared.labels.Label.{Label}
 use Rattle.wal_record.specs.Labels.{label}
 use Rattle.head_live.specs.Rows.{Row}
@@ -54,15 +54,15 @@ abbrev pub labels_of : {A : Type 0} → List (Vec ℕ A × Vec ℕ A) → List L
 labels_of pairs = map (λ p. label p.0.items p.1.items) pairs
 
 -- a time, a value and labels are read of the line
-pub record IsReadUpTo (line : List ℕ) (labels : List Label) (time value : ℤ) (left : List ℕ) : Type 0 where
+pub record IsReadUpTo (floats : Bool) (line : List ℕ) (labels : List Label) (time value : ℤ) (left : List ℕ) : Type 0 where
   pub time_text : List ℕ
   pub value_text : List ℕ
   pub whole : line ≡ time_text ++ (32 ∷ value_text ++ (flat_map label_word labels ++ left))
   pub time_spelled : IsNumberText time_text time
-  pub value_spelled : IsNumberText value_text value
+  pub value_spelled : IsValueText floats value_text value
 
 -- the time and the value are the first two words
-numbers_first : (line first second behind left : List ℕ) (time value : ℤ) → line ≡ first ++ behind → behind ≡ 32 ∷ (second ++ left) → IsNumberText first time → IsNumberText second value → IsReadUpTo line [] time value left
+numbers_first : {floats : Bool} (line first second behind left : List ℕ) (time value : ℤ) → line ≡ first ++ behind → behind ≡ 32 ∷ (second ++ left) → IsNumberText first time → IsValueText floats second value → IsReadUpTo floats line [] time value left
 numbers_first line first second behind left time value whole rest t v = record {
   time_text = first;
   value_text = second;
@@ -72,30 +72,29 @@ numbers_first line first second behind left time value whole rest t v = record {
 }
 
 -- the words behind the first two are left once those are numbers
-pub numbers_read : (line : List ℕ) (s t u : Split ℕ) (first second : Option (Bor (List ℕ))) (time value : ℤ) → split_text s ≡ line → split_pattern s ≡ 32
+pub numbers_read : {floats : Bool} (line : List ℕ) (s t u : Split ℕ) (first : Option (Bor (List ℕ))) (second : Bor (List ℕ)) (time value : ℤ) → split_text s ≡ line → split_pattern s ≡ 32
     → split_steps FindsChar (λ a b. b ≡ a) s first t → MatchOption first (Some time ≡ None) (λ word. IsNumberText word.now time)
-    → split_steps FindsChar (λ a b. b ≡ a) t second u → MatchOption second (Some value ≡ None) (λ word. IsNumberText word.now value)
-    → IsReadUpTo line [] time value (left_of u) × (split_pattern u ≡ 32)
+    → split_steps FindsChar (λ a b. b ≡ a) t (Some second) u → IsValueText floats second.now value
+    → IsReadUpTo floats line [] time value (left_of u) × (split_pattern u ≡ 32)
 numbers_read line s t u None second time value text space step is step₂ is₂ = absurd (cc)
-numbers_read line s t u (Some first) None time value text space step is step₂ is₂ = absurd (cc)
-numbers_read line s t u (Some first) (Some second) time value text space step is step₂ is₂ =
+numbers_read line s t u (Some first) second time value text space step is step₂ is₂ =
     let cut = word_joined s t first space step in
     let cut₂ = word_joined t u second cut.2 step₂ in
     (numbers_first line first.now second.now (left_of t) (left_of u) time value (sym text ∙ cut.0) cut₂.1 is is₂, cut₂.2)
 
 -- no label is read yet, and the numbers are as the code passes them
-pub row_begins : {A : Type 0} (line : List ℕ) (s it : Split ℕ) (pairs : List (Vec ℕ A × Vec ℕ A)) (time value : ℤ) → IsReadUpTo line [] time value (left_of s) × (split_pattern s ≡ 32) → pairs ≡ [] → it ≡ s → FitsSigned w64 time → FitsSigned w64 value
-    → IsReadUpTo line (labels_of pairs) (to_z w64 (of_z w64 time)) (to_z w64 (of_z w64 value)) (left_of it) × (split_pattern it ≡ 32)
-row_begins {A} line s it pairs time value begun none same t v = (
-  subst (λ (w : Split ℕ). IsReadUpTo line (labels_of pairs) (to_z w64 (of_z w64 time)) (to_z w64 (of_z w64 value)) (left_of w)) (sym same)
-      (subst (λ (ps : List (Vec ℕ A × Vec ℕ A)). IsReadUpTo line (labels_of ps) (to_z w64 (of_z w64 time)) (to_z w64 (of_z w64 value)) (left_of s)) (sym none)
-      (subst (λ (n : ℤ). IsReadUpTo line [] n (to_z w64 (of_z w64 value)) (left_of s)) (sym (to_z-of_z w64 time t))
-      (subst (λ (n : ℤ). IsReadUpTo line [] time n (left_of s)) (sym (to_z-of_z w64 value v)) begun.0))),
+pub row_begins : {A : Type 0} {floats : Bool} (line : List ℕ) (s it : Split ℕ) (pairs : List (Vec ℕ A × Vec ℕ A)) (time value : ℤ) → IsReadUpTo floats line [] time value (left_of s) × (split_pattern s ≡ 32) → pairs ≡ [] → it ≡ s → FitsSigned w64 time → FitsSigned w64 value
+    → IsReadUpTo floats line (labels_of pairs) (to_z w64 (of_z w64 time)) (to_z w64 (of_z w64 value)) (left_of it) × (split_pattern it ≡ 32)
+row_begins {A} {floats} line s it pairs time value begun none same t v = (
+  subst (λ (w : Split ℕ). IsReadUpTo floats line (labels_of pairs) (to_z w64 (of_z w64 time)) (to_z w64 (of_z w64 value)) (left_of w)) (sym same)
+      (subst (λ (ps : List (Vec ℕ A × Vec ℕ A)). IsReadUpTo floats line (labels_of ps) (to_z w64 (of_z w64 time)) (to_z w64 (of_z w64 value)) (left_of s)) (sym none)
+      (subst (λ (n : ℤ). IsReadUpTo floats line [] n (to_z w64 (of_z w64 value)) (left_of s)) (sym (to_z-of_z w64 time t))
+      (subst (λ (n : ℤ). IsReadUpTo floats line [] time n (left_of s)) (sym (to_z-of_z w64 value v)) begun.0))),
   ap (λ (w : Split ℕ). split_pattern w) same ∙ begun.1,
 )
 
 -- one label more is read
-label_read : (line word left after : List ℕ) (labels : List Label) (l : Label) (time value : ℤ) → IsReadUpTo line labels time value left → left ≡ 32 ∷ (word ++ after) → word ≡ pair_text l.name l.value → IsReadUpTo line (labels ++ l ∷ []) time value after
+label_read : {floats : Bool} (line word left after : List ℕ) (labels : List Label) (l : Label) (time value : ℤ) → IsReadUpTo floats line labels time value left → left ≡ 32 ∷ (word ++ after) → word ≡ pair_text l.name l.value → IsReadUpTo floats line (labels ++ l ∷ []) time value after
 label_read line word left after labels l time value so_far rest is = record {
   time_text = so_far.time_text;
   value_text = so_far.value_text;
@@ -110,14 +109,14 @@ label_read line word left after labels l time value so_far rest is = record {
 }
 
 -- one pair more is read and pushed
-pub pair_read : {A : Type 0} (line word left after : List ℕ) (pairs more : List (Vec ℕ A × Vec ℕ A)) (p : Vec ℕ A × Vec ℕ A) (time value : ℤ) → IsReadUpTo line (labels_of pairs) time value left → left ≡ 32 ∷ (word ++ after) → word ≡ pair_text p.0.items p.1.items → more ≡ pairs ++ p ∷ [] → IsReadUpTo line (labels_of more) time value after
-pair_read {A} line word left after pairs more p time value so_far rest is pushed =
-    subst (λ (labels : List Label). IsReadUpTo line labels time value after)
+pub pair_read : {A : Type 0} {floats : Bool} (line word left after : List ℕ) (pairs more : List (Vec ℕ A × Vec ℕ A)) (p : Vec ℕ A × Vec ℕ A) (time value : ℤ) → IsReadUpTo floats line (labels_of pairs) time value left → left ≡ 32 ∷ (word ++ after) → word ≡ pair_text p.0.items p.1.items → more ≡ pairs ++ p ∷ [] → IsReadUpTo floats line (labels_of more) time value after
+pair_read {A} {floats} line word left after pairs more p time value so_far rest is pushed =
+    subst (λ (labels : List Label). IsReadUpTo floats line labels time value after)
     (sym (ap (λ (ps : List (Vec ℕ A × Vec ℕ A)). labels_of ps) pushed ∙ map_push (λ (q : Vec ℕ A × Vec ℕ A). label q.0.items q.1.items) pairs p))
     (label_read line word left after (labels_of pairs) (label p.0.items p.1.items) time value so_far rest is)
 
 -- the whole line is read
-pub row_read : (line left : List ℕ) (row : Row) → IsReadUpTo line row.labels row.time row.value left → left ≡ [] → IsRowLine line row
+pub row_read : {floats : Bool} (line left : List ℕ) (row : Row) → IsReadUpTo floats line row.labels row.time row.value left → left ≡ [] → IsRowLine floats line row
 row_read line left row so_far none = record {
   time_text = so_far.time_text;
   value_text = so_far.value_text;

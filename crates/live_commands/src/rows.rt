@@ -2,8 +2,9 @@
 
 ghost use Rattle.std.specs.Prelude.{IfOk, IfSome, map};
 ghost use Rattle.head_live.specs.Rows.{row_of as row_seen};
-ghost use Rattle.live_commands.specs.RowTexts.{AreRowsOf, IsNumberText, IsRowLine};
+ghost use Rattle.live_commands.specs.RowTexts.{AreRowsOf, IsNumberText, IsRowLine, IsValueText};
 
+use float_text::bits_of_text;
 use head_live::RawRow;
 use prom_commands::read_pair;
 use prom_store::Fault;
@@ -21,15 +22,29 @@ fn read_number(word: &str) -> Option<i64>
     word.parse().ok()
 }
 
+// Parses a value: a floating point number, which stands for its bits, or else a number.
+fn read_value(word: &str, floats: bool) -> Option<i64>
+    ensures { IfSome result (IsValueText floats word.now) }
+{
+    if floats {
+        bits_of_text(word)
+    } else {
+        read_number(word)
+    }
+}
+
 // Parses a row: a time, a value and labels as they are printed, separated by one space.
-fn read_row(alloc: Global, line: &str) -> Result<Option<RawRow>, AllocError>
-    ensures { IfOk result (λ found. IfSome found (λ row. IsRowLine line.now (row_seen row))) }
+fn read_row(alloc: Global, line: &str, floats: bool) -> Result<Option<RawRow>, AllocError>
+    ensures { IfOk result (λ found. IfSome found (λ row. IsRowLine floats line.now (row_seen row))) }
 {
     let mut words = line.split(' ');
     let Some(time) = words.next().and_then(read_number) else {
         return Ok(None);
     };
-    let Some(value) = words.next().and_then(read_number) else {
+    let Some(second) = words.next() else {
+        return Ok(None);
+    };
+    let Some(value) = read_value(second, floats) else {
         return Ok(None);
     };
     let mut pairs = Vec::new(alloc);
@@ -43,18 +58,19 @@ fn read_row(alloc: Global, line: &str) -> Result<Option<RawRow>, AllocError>
 }
 
 // Parses the bytes of a line as a row.
-fn row_of(alloc: Global, line: &[u8]) -> Result<Option<RawRow>, AllocError>
-    ensures { IfOk result (λ found. IfSome found (λ row. IsRowLine line.now (row_seen row))) }
+fn row_of(alloc: Global, line: &[u8], floats: bool) -> Result<Option<RawRow>, AllocError>
+    ensures { IfOk result (λ found. IfSome found (λ row. IsRowLine floats line.now (row_seen row))) }
 {
     match str::from_utf8(line) {
-        Ok(line) => read_row(alloc, line),
+        Ok(line) => read_row(alloc, line, floats),
         Err(_) => Ok(None),
     }
 }
 
-/// Parses the rows of a file, one a line. The last newline may be missing. Returns `NotARow` with the first line that is no row.
-pub fn read_rows(alloc: Global, bytes: &[u8]) -> Result<Vec<RawRow>, Fault>
-    ensures { IfOk result (λ rows. AreRowsOf bytes.now (map row_seen rows.items)) }
+/// Parses the rows of a file, one a line, whose values are floating point numbers or not. The last newline may be missing. Returns `NotARow`
+/// with the first line that is no row.
+pub fn read_rows(alloc: Global, bytes: &[u8], floats: bool) -> Result<Vec<RawRow>, Fault>
+    ensures { IfOk result (λ rows. AreRowsOf floats bytes.now (map row_seen rows.items)) }
 {
     let mut rows = Vec::new(alloc);
     if bytes.is_empty() {
@@ -62,7 +78,7 @@ pub fn read_rows(alloc: Global, bytes: &[u8]) -> Result<Vec<RawRow>, Fault>
     }
     let lines = bytes.strip_suffix(b"\n").unwrap_or(bytes);
     for (line, bytes) in (1..).zip(lines.split(|byte| *byte == b'\n')) {
-        match row_of(alloc, bytes)? {
+        match row_of(alloc, bytes, floats)? {
             Some(row) => rows.push(row)?,
             None => return Err(Fault::NotARow { line }),
         }

@@ -1,6 +1,7 @@
 -- How the bytes of a label's name or value are spelled as text.
-use Rattle.std.specs.Prelude.{ℕ, ◌+◌, ◌/◌, ◌%◌, ◌&&◌, ◌==◌, nat_le, nat_lt, not, if◌then◌else◌, Bool, List, [], ◌∷◌, ◌++◌}
+use Rattle.std.specs.Prelude.{◌≡◌, ℕ, ◌+◌, ◌/◌, ◌%◌, ◌&&◌, ◌==◌, nat_le, nat_lt, not, if◌then◌else◌, Bool, Option, List, [], ◌∷◌, ◌++◌}
 use Rattle.std.specs.List.{flat_map}
+use Rattle.std.specs.Option.{option_map}
 
 -- whether the byte is spelled as itself: 0x21 to 0x7e without `\` and `=`
 abbrev pub is_bare : ℕ → Bool
@@ -21,3 +22,7 @@ spelled bytes = flat_map byte_spelling bytes
 -- a label: `NAME=VALUE`
 abbrev pub pair_text : List ℕ → List ℕ → List ℕ
 pair_text name value = spelled name ++ 61 ∷ spelled value
+
+-- the word, if there is one, spells the label of this name and this value, and else there is no label
+pub record SpellsPair (word : Option (List ℕ)) (pair : Option (List ℕ × List ℕ)) : Type 0 where
+  pub is : word ≡ option_map (λ p. pair_text p.0 p.1) pair

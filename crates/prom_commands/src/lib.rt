@@ -5,14 +5,16 @@ mod commands;
 mod directory;
 mod heads;
 mod meter;
+mod planning;
 mod progress;
 mod report;
 mod spelling;
 
 pub use commands::{Answer, carry_out};
-pub use directory::{names_in, read_in, read_log, read_paths};
+pub use directory::{names_in, read_in, read_log, read_paths, read_planned_file};
 pub use heads::undamaged_head;
 pub use meter::Meter;
+pub use planning::{plan_checkpoint, plan_log};
 pub use progress::{Progress, extent_of};
 pub use prom_store::Request;
-pub use spelling::read_pair;
+pub use spelling::{Pair, pair_of, push_pair, push_spelled, read_pair};

@@ -1,9 +1,14 @@
 //! Spelling a label's bytes as text, and reading that text.
 
-ghost use Rattle.std.specs.Prelude.{◌≡◌, ◌<◌, ◌≤◌, IfOk, IfSome, length, take};
-ghost use Rattle.prom_commands.specs.Spellings.{byte_spelling, digit_of, is_bare, pair_text, spelled};
+ghost use Rattle.std.specs.Prelude.{◌≡◌, ◌<◌, ◌≤◌, ◌/◌, ◌%◌, ◌∷◌, ◌++◌, [], IfOk, IfSome, OnOk, length, string_bytes, take};
+ghost use Rattle.std.specs.Option.{option_map};
+ghost use Rattle.prom_commands.specs.Spellings.{SpellsPair, byte_spelling, digit_of, is_bare, pair_text, spelled};
 
+use prom_store::Fault;
 use std::alloc::{AllocError, Global};
+
+/// The name and the value of a label.
+pub type Pair = (Vec<u8>, Vec<u8>);
 
 // Returns whether a byte is printed as itself.
 fn is_bare(byte: u8) -> bool
@@ -12,17 +17,57 @@ fn is_bare(byte: u8) -> bool
     byte.is_ascii_graphic() && byte != b'\\' && byte != b'='
 }
 
+// Returns the lower-case hexadecimal digit of a number.
+fn digit_of(number: u8) -> u8
+    requires { number < 16 }
+    ensures digit { result ≡ digit_of number }
+    ensures ascii { result < 128 }
+{
+    if number < 10 {
+        b'0' + number
+    } else {
+        b'a' - 10 + number
+    }
+}
+
+// Appends a byte as two lower-case hexadecimal digits behind `\x`.
+fn push_escaped(text: &mut String, byte: u8) -> Result<(), AllocError>
+    ensures { OnOk result (string_bytes text.new ≡ string_bytes text.old ++ (92 ∷ 120 ∷ digit_of (byte / 16) ∷ digit_of (byte % 16) ∷ [])) }
+{
+    text.push_str("\\x")?;
+    text.push(char::from(digit_of(byte / 16)))?;
+    text.push(char::from(digit_of(byte % 16)))
+}
+
+// Appends the spelling of a byte.
+fn push_byte(text: &mut String, byte: u8) -> Result<(), AllocError>
+    ensures { OnOk result (string_bytes text.new ≡ string_bytes text.old ++ byte_spelling byte) }
+{
+    if is_bare(byte) {
+        text.push(char::from(byte))
+    } else {
+        push_escaped(text, byte)
+    }
+}
+
 /// Appends the spelling of a label's name or value. The bytes 0x21 to 0x7e except `\` and `=` are spelled as themselves, each other byte
 /// as `\x` and two lower-case hexadecimal digits.
-pub fn push_spelled(text: &mut String, label: &[u8]) -> Result<(), AllocError> {
+pub fn push_spelled(text: &mut String, label: &[u8]) -> Result<(), AllocError>
+    ensures { OnOk result (string_bytes text.new ≡ string_bytes text.old ++ spelled label.now) }
+{
     for byte in label {
-        if is_bare(*byte) {
-            text.push(char::from(*byte))?;
-        } else {
-            write!(text, "\\x{byte:02x}")?;
-        }
+        push_byte(text, *byte)?;
     }
     Ok(())
+}
+
+/// Appends a label as it is printed: `NAME=VALUE`.
+pub fn push_pair(text: &mut String, name: &[u8], value: &[u8]) -> Result<(), AllocError>
+    ensures { OnOk result (string_bytes text.new ≡ string_bytes text.old ++ pair_text name.now value.now) }
+{
+    push_spelled(text, name)?;
+    text.push('=')?;
+    push_spelled(text, value)
 }
 
 // Returns the number that a lower-case hexadecimal digit stands for.
@@ -75,7 +120,7 @@ fn read_spelled(alloc: Global, word: &str) -> Result<Option<Vec<u8>>, AllocError
 
 /// Reads a label of the form `NAME=VALUE`, both spelled as labels are printed. Returns its name and its value, or `None` if the word is no
 /// such label. The word has exactly one `=`.
-pub fn read_pair(alloc: Global, word: &str) -> Result<Option<(Vec<u8>, Vec<u8>)>, AllocError>
+pub fn read_pair(alloc: Global, word: &str) -> Result<Option<Pair>, AllocError>
     ensures { IfOk result (λ found. IfSome found (λ pair. word.now ≡ pair_text pair.0.items pair.1.items)) }
 {
     let Some((name, value)) = word.split_once('=') else {
@@ -88,4 +133,24 @@ pub fn read_pair(alloc: Global, word: &str) -> Result<Option<(Vec<u8>, Vec<u8>)>
         return Ok(None);
     };
     Ok(Some((name, value)))
+}
+
+// Reads a label that is spelled as labels are printed. Returns `NoPair` if the word is no such label.
+fn pair_in(alloc: Global, word: &str) -> Result<Pair, Fault>
+    ensures { IfOk result (λ pair. word.now ≡ pair_text pair.0.items pair.1.items) }
+{
+    match read_pair(alloc, word)? {
+        Some(pair) => Ok(pair),
+        None => Err(Fault::NoPair),
+    }
+}
+
+/// Reads the label of an option, spelled as labels are printed, if a word was given. Returns `NoPair` if the word is no such label.
+pub fn pair_of(alloc: Global, word: Option<&str>) -> Result<Option<Pair>, Fault>
+    ensures { IfOk result (λ pair. SpellsPair (option_map (λ w. w.now) word.entry) (option_map (λ p. (p.0.items, p.1.items)) pair)) }
+{
+    match word {
+        Some(word) => Ok(Some(pair_in(alloc, word)?)),
+        None => Ok(None),
+    }
 }

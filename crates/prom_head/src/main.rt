@@ -34,35 +34,44 @@ fn refuse(rt: &impl Eprint, fault: &LineFault) -> Status {
     fault.status()
 }
 
-// Prints why a command failed. It does not allocate.
-fn complain(rt: &impl Eprint, fault: &Fault) {
+// Prints why a command failed, and on a terminal a second line with what is known beyond that. It does not allocate.
+fn complain(rt: &impl Eprint, fault: &Fault, is_terminal: bool) {
     let _ = eprintln!(rt; "prom_head: {fault}");
+    if is_terminal && let Some(cause) = fault.cause() {
+        let _ = eprintln!(rt; "prom_head: {cause}");
+    }
 }
 
-// Prints the answer of a command, and returns the exit status.
-fn show<R: Print + Eprint>(rt: &R, answer: &Answer) -> Status {
-    if rt.write_all(answer.printed.as_bytes()).is_err() {
-        return refuse(rt, &LineFault::CannotPrint);
+// Prints the answer of a command, and returns the exit status. A reader that has enough and closes its end is no fault.
+fn show<R: Print + Eprint>(rt: &R, answer: &Answer, is_terminal: bool) -> Status {
+    match rt.write_all(answer.printed.as_bytes()) {
+        Err(error) if error.kind() != ErrorKind::BrokenPipe => {
+            return refuse(rt, &LineFault::CannotPrint);
+        }
+        _ => {}
     }
     if let Some(fault) = &answer.fault {
-        complain(rt, fault);
+        complain(rt, fault, is_terminal);
     }
     answer.status
 }
 
-// Runs the program over a store.
+// Runs the program over a store. `is_terminal` says whether standard error is a terminal, and `bars` whether standard output is one.
 fn run_here<R: Env + Clock + Eprint + AllocGlobal + Threads + Wait + Sync + Drop, S: Store>(
     rt: &R,
     store: &mut S,
     is_terminal: bool,
+    bars: bool,
 ) -> Result<Answer, LineFault> {
     let words = arguments(rt)?;
-    run(rt, store, &Meter::new(rt, is_terminal), &words)
+    run(rt, store, &Meter::new(rt, is_terminal), &words, bars)
 }
 
 fn main(rt: HostRuntime) -> ExitCode {
-    let status = match run_here(&rt, &mut Disk::new(&rt), rt.stderr().is_terminal()) {
-        Ok(answer) => show(&rt, &answer),
+    let is_terminal = rt.stderr().is_terminal();
+    let bars = rt.stdout().is_terminal();
+    let status = match run_here(&rt, &mut Disk::new(&rt), is_terminal, bars) {
+        Ok(answer) => show(&rt, &answer, is_terminal),
         Err(fault) => refuse(&rt, &fault),
     };
     status.into()

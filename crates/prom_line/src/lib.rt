@@ -1,6 +1,9 @@
 //! The command line: its words, parsed to a request.
 #![tactic(auto)]
 
-mod options;
+mod arguments;
+mod asked;
+mod commands;
+mod texts;
 
-pub use options::{Asked, parse};
+pub use asked::{Asked, parse};

@@ -14,12 +14,12 @@ TellsDamage _ = ⊥
 
 -- what is at this path could not be read, or out of memory
 abbrev pub TellsUnread : List ℕ → Fault → Type 0
-TellsUnread path (CannotRead told) = string_bytes told ≡ path
+TellsUnread path (CannotRead told reason) = string_bytes told ≡ path
 TellsUnread _ OutOfMemory = ⊤
 TellsUnread _ _ = ⊥
 
 -- what is at this path could not be written, or out of memory
 abbrev pub TellsUnwritten : List ℕ → Fault → Type 0
-TellsUnwritten path (CannotWrite told) = string_bytes told ≡ path
+TellsUnwritten path (CannotWrite told reason) = string_bytes told ≡ path
 TellsUnwritten _ OutOfMemory = ⊤
 TellsUnwritten _ _ = ⊥

@@ -5,6 +5,7 @@ ghost use Rattle.std.specs.Iterator.{Drains, IsFinite};
 ghost use Rattle.std.specs.Fs.{dir_entry_name};
 ghost use Rattle.prom_store.specs.Entries.{Gives};
 
+use crate::reason::Reason;
 use crate::store::{Store, StoreFault};
 use std::alloc::Global;
 use std::fs::{DirEntry, File, OpenFile};
@@ -150,7 +151,7 @@ fn read_parts<R: Threads>(
     is_whole.then_some(bytes)
 }
 
-// Reads the file at a path, in so many threads if it is large. If that fails, it is read from its start in this thread alone.
+// Reads what is at a path, in so many threads if it is a large file. If that fails, it is read from its start in this thread alone.
 fn read_by<R: Threads>(
     rt: &R,
     host: HostRuntime,
@@ -167,8 +168,29 @@ fn read_by<R: Threads>(
     read_whole(host.alloc(), &mut file, length)
 }
 
-// Reads the file at a path.
+// Returns an error unless a file is at the path. To open a FIFO would be to wait for a writer.
+fn check_file(host: HostRuntime, path: &str) -> Result<(), StoreFault> {
+    if fs::metadata(&host, path)?.is_file() {
+        Ok(())
+    } else {
+        Err(StoreFault::Refused(Reason::NotAFile))
+    }
+}
+
+// Reads the file at a path, in so many threads if it is large. Returns an error if what is at the path is not a file.
+fn read_file_by<R: Threads>(
+    rt: &R,
+    host: HostRuntime,
+    threads: usize,
+    path: &str,
+) -> Result<Vec<u8>, StoreFault> {
+    check_file(host, path)?;
+    read_by(rt, host, threads, path)
+}
+
+// Reads the file at a path. Returns an error if what is at the path is not a file.
 fn read_file(host: HostRuntime, path: &str) -> Result<Vec<u8>, StoreFault> {
+    check_file(host, path)?;
     let mut file = File::open(&host, path)?;
     let length = length_of(&file);
     read_whole(host.alloc(), &mut file, length)
@@ -196,7 +218,7 @@ fn read_here<R: Threads>(
     ensures { length files.new ≡ length paths.now }
 {
     for place in 0..paths.len() {
-        files[place] = read_by(rt, host, threads, &paths[place]);
+        files[place] = read_file_by(rt, host, threads, &paths[place]);
     }
 }
 
@@ -228,6 +250,9 @@ fn read_among<R: Threads>(
     thread::join_mut(rt, &mut || read_in_turn(host, rest, back), &mut here);
 }
 
+// What is in the place of a file that was not read yet.
+const UNREAD: StoreFault = StoreFault::Refused(Reason::Other(ErrorKind::Other));
+
 // Returns a place for each path. What is in it says that no file was read yet.
 fn places_for(
     alloc: Global,
@@ -238,7 +263,7 @@ fn places_for(
 {
     let mut files = Vec::new(alloc);
     for place in 0..paths.len() {
-        if files.push(Err(StoreFault::Refused)).is_err() {
+        if files.push(Err(UNREAD)).is_err() {
             return Err((place, StoreFault::OutOfMemory));
         }
     }

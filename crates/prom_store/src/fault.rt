@@ -1,6 +1,6 @@
 //! How a run can end: faults, their texts and exit statuses.
 
-ghost use Rattle.std.specs.Prelude.{◌≡◌, ◌↔◌, ◌⊎◌};
+ghost use Rattle.std.specs.Prelude.{◌≡◌, ◌↔◌, ◌⊎◌, None};
 ghost use Rattle.wal_log.specs.declared.plan.PlanFault.TheVariants as plan;
 ghost use Rattle.wal_log.specs.declared.checkpoint.CheckpointFault.TheVariants as checkpoint;
 ghost use Rattle.wal_log.specs.declared.input.InputFault.TheVariants as input;
@@ -13,6 +13,7 @@ ghost use Rattle.prom_store.specs.declared.fault.Fault.TheVariants.{BadChunks, B
 ghost use Rattle.prom_store.specs.Faults.{TellsDamage, TellsUnread, TellsUnwritten};
 
 use crate::damage::DamageLine;
+use crate::reason::Reason;
 use crate::store::StoreFault;
 use block_index::ReadFault;
 use block_read::BlockFault;
@@ -43,6 +44,50 @@ impl From<Status> for ExitCode {
     }
 }
 
+/// Two files of a log, one behind the other by their numbers, of which the later does not have the number after the earlier.
+#[derive(Clone, Copy, Debug, PartialEq, Eq)]
+pub struct NumberGap {
+    /// Whether the files are checkpoints, and not segments.
+    pub of_checkpoints: bool,
+    pub number: u64,
+    /// The number of the later file, which is `number` if two files have it.
+    pub next: u64,
+}
+
+impl fmt::Display for NumberGap {
+    fn fmt<W: fmt::Write>(&self, f: &mut fmt::Formatter<W>) -> fmt::Result {
+        let NumberGap { number, next, .. } = *self;
+        let kind = if self.of_checkpoints {
+            "checkpoint"
+        } else {
+            "segment"
+        };
+        if number == next {
+            write!(f, "{kind} {number:08} is there twice")
+        } else {
+            write!(f, "behind {kind} {number:08} comes {next:08}")
+        }
+    }
+}
+
+/// What is known of a fault beyond its text, to be told behind it.
+#[derive(Clone, Copy, Debug, PartialEq, Eq)]
+pub enum Cause {
+    /// The file system refused a call.
+    Refused(Reason),
+    /// The numbers of two files do not follow each other.
+    Gap(NumberGap),
+}
+
+impl fmt::Display for Cause {
+    fn fmt<W: fmt::Write>(&self, f: &mut fmt::Formatter<W>) -> fmt::Result {
+        match self {
+            Cause::Refused(reason) => fmt::Display::fmt(reason, f),
+            Cause::Gap(gap) => fmt::Display::fmt(gap, f),
+        }
+    }
+}
+
 /// Why a command failed. Its `Display` is the text that is printed on standard error behind the program's name.
 #[derive(Drop)]
 pub enum Fault {
@@ -61,9 +106,9 @@ pub enum Fault {
     /// meta.json of a block does not say what the block holds.
     BadMeta,
     /// The file or directory at this path cannot be read.
-    CannotRead { path: String },
+    CannotRead { path: String, reason: Reason },
     /// The file or directory at this path cannot be written.
-    CannotWrite { path: String },
+    CannotWrite { path: String, reason: Reason },
     /// The hour does not lie within the times of 64 bits.
     Edge,
     /// No accepted sample is at or past the end of the hour.
@@ -72,8 +117,8 @@ pub enum Fault {
     NoSamples,
     /// The directory has no log to make a checkpoint of.
     NoLog,
-    /// A number between two files of the log is missing, or two files have the same number.
-    Gap,
+    /// A number between two files of the log is missing, or two files have the same number: where that is, if it is known.
+    Gap(Option<NumberGap>),
     /// The files of the log have 2^64 bytes or more in total, a block is larger than its index can say, or a record of a checkpoint is
     /// larger than a file of it may be.
     TooLarge,
@@ -102,7 +147,7 @@ impl Fault {
         ensures memory { fault ≡ StoreFault.OutOfMemory → result ≡ OutOfMemory }
     {
         match (fault, String::from_str(alloc, path)) {
-            (StoreFault::Refused, Ok(path)) => Fault::CannotRead { path },
+            (StoreFault::Refused(reason), Ok(path)) => Fault::CannotRead { path, reason },
             _ => Fault::OutOfMemory,
         }
     }
@@ -114,7 +159,7 @@ impl Fault {
         ensures memory { fault ≡ StoreFault.OutOfMemory → result ≡ OutOfMemory }
     {
         match (fault, String::from_str(alloc, path)) {
-            (StoreFault::Refused, Ok(path)) => Fault::CannotWrite { path },
+            (StoreFault::Refused(reason), Ok(path)) => Fault::CannotWrite { path, reason },
             _ => Fault::OutOfMemory,
         }
     }
@@ -136,7 +181,7 @@ impl Fault {
             Fault::NotFull => "hour not full",
             Fault::NoSamples => "no samples in hour",
             Fault::NoLog => "no log to keep",
-            Fault::Gap => "gap in segment numbers",
+            Fault::Gap(_) => "gap in segment numbers",
             Fault::TooLarge => "too large",
             Fault::Full => "too many series",
             Fault::NotARow { .. } => "not a row",
@@ -146,6 +191,17 @@ impl Fault {
             Fault::SegmentFull => "rows do not fit one segment",
             Fault::OutOfMemory => "out of memory",
             Fault::Workers => "a thread could not start",
+        }
+    }
+
+    /// Returns what is known of the fault beyond its text: the reason of a refusal, or the numbers of a gap.
+    pub fn cause(&self) -> Option<Cause> {
+        match self {
+            Fault::CannotRead { reason, .. } | Fault::CannotWrite { reason, .. } => {
+                Some(Cause::Refused(*reason))
+            }
+            Fault::Gap(gap) => Some(Cause::Gap((*gap)?)),
+            _ => None,
         }
     }
 
@@ -166,7 +222,7 @@ impl Fault {
             Fault::CannotRead { .. }
             | Fault::CannotWrite { .. }
             | Fault::NoLog
-            | Fault::Gap
+            | Fault::Gap(_)
             | Fault::TooLarge
             | Fault::Full
             | Fault::NotARow { .. }
@@ -188,7 +244,9 @@ impl fmt::Display for Fault {
         match self {
             Fault::Damage(line) => write!(f, "{line}"),
             Fault::BadIndex(fault) => write!(f, "{text} {fault}"),
-            Fault::CannotRead { path } | Fault::CannotWrite { path } => write!(f, "{text} {path}"),
+            Fault::CannotRead { path, .. } | Fault::CannotWrite { path, .. } => {
+                write!(f, "{text} {path}")
+            }
             Fault::NotARow { line }
             | Fault::EmptyLabelName { line }
             | Fault::LabelsNotAscending { line } => write!(f, "line {line}: {text}"),
@@ -207,11 +265,11 @@ impl fmt::Debug for Fault {
 impl Error for Fault {}
 
 impl From<PlanFault> for Fault {
-    ghost from_gives = { λ e f. ((f ≡ OutOfMemory) ↔ (e ≡ plan.Memory)) × ((f ≡ Gap) ↔ (e ≡ plan.Gap)) };
+    ghost from_gives = { λ e f. ((f ≡ OutOfMemory) ↔ (e ≡ plan.Memory)) × ((f ≡ Gap None) ↔ (e ≡ plan.Gap)) };
 
     fn from(fault: PlanFault) -> Fault {
         match fault {
-            PlanFault::Gap => Fault::Gap,
+            PlanFault::Gap => Fault::Gap(None),
             PlanFault::Memory => Fault::OutOfMemory,
         }
     }
@@ -233,13 +291,13 @@ impl From<ReplayFault> for Fault {
 }
 
 impl From<InputRefused> for Fault {
-    ghost from_gives = { λ e f. ((f ≡ TooLarge) ↔ (e.fault ≡ input.TooLong)) × (e.fault ≡ input.Gap → f ≡ Gap) };
+    ghost from_gives = { λ e f. ((f ≡ TooLarge) ↔ (e.fault ≡ input.TooLong)) × (e.fault ≡ input.Gap → f ≡ Gap None) };
 
     fn from(refused: InputRefused) -> Fault {
         match refused.fault {
             InputFault::TooLong => Fault::TooLarge,
             // a plan has no segment at or below its checkpoint
-            InputFault::BelowCheckpoint | InputFault::Gap => Fault::Gap,
+            InputFault::BelowCheckpoint | InputFault::Gap => Fault::Gap(None),
         }
     }
 }

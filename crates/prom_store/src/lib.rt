@@ -6,13 +6,18 @@ mod disk;
 mod fault;
 mod line;
 mod paths;
+mod reason;
 mod requests;
 mod store;
 
 pub use damage::{DamageLine, kind_of_file};
 pub use disk::{Disk, names_of, read_whole};
-pub use fault::{Fault, Status};
+pub use fault::{Cause, Fault, NumberGap, Status};
 pub use line::LineFault;
 pub use paths::join;
-pub use requests::{AppendRequest, BlockRequest, CheckpointRequest, CutRequest, Request};
+pub use reason::Reason;
+pub use requests::{
+    AnalyzeRequest, AppendRequest, BlockRequest, CheckpointRequest, CutRequest, DumpRequest,
+    InspectRequest, Request,
+};
 pub use store::{Store, StoreFault};

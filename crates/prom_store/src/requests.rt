@@ -49,6 +49,8 @@ pub struct AppendRequest<'a> {
     pub dir: &'a str,
     /// The path of the file of rows.
     pub rows: &'a str,
+    /// Whether the values of the rows are floating point numbers, whose bits are appended.
+    pub floats: bool,
     pub options: Options,
 }
 
@@ -57,4 +59,40 @@ pub struct AppendRequest<'a> {
 pub struct CheckpointRequest<'a> {
     pub dir: &'a str,
     pub min_valid: i64,
+}
+
+/// A request to print what is in the log in a directory, file by file.
+#[derive(Clone, Copy, Debug, PartialEq, Eq)]
+pub struct InspectRequest<'a> {
+    pub dir: &'a str,
+    /// Whether it is printed as one JSON document.
+    pub json: bool,
+}
+
+/// A request to print what makes the log in a directory large.
+#[derive(Clone, Copy, Debug, PartialEq, Eq)]
+pub struct AnalyzeRequest<'a> {
+    pub dir: &'a str,
+    /// How many lines each list has at most.
+    pub most: usize,
+    /// Whether each line has a bar that shows its share.
+    pub bars: bool,
+    pub options: Options,
+}
+
+/// A request to print the samples of the log in a directory.
+#[derive(Clone, Copy, Debug, PartialEq, Eq)]
+pub struct DumpRequest<'a> {
+    pub dir: &'a str,
+    /// Only the series with this label, which is spelled as labels are printed.
+    pub pair: Option<&'a str>,
+    /// The least time, in milliseconds.
+    pub from: i64,
+    /// The greatest time, in milliseconds.
+    pub to: i64,
+    /// Whether values are printed as the floating point numbers that their bits are.
+    pub floats: bool,
+    /// Whether samples that deletions hide are printed too.
+    pub hidden: bool,
+    pub options: Options,
 }

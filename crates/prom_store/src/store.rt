@@ -8,6 +8,7 @@ ghost use Rattle.prom_store.specs.Calls.{Call, Called, Create, CreateDir, Remove
 ghost use Rattle.prom_store.specs.Found.{Bytes, Found, Names};
 ghost use Rattle.prom_store.specs.declared.store.StoreFault.TheVariants.{OutOfMemory};
 
+use crate::reason::Reason;
 use std::alloc::{AllocError, AllocFailed, Global};
 use std::io;
 use std::io::ErrorKind;
@@ -16,7 +17,7 @@ use std::io::ErrorKind;
 #[derive(Clone, Copy, Debug, PartialEq, Eq)]
 pub enum StoreFault {
     /// The file system refused, or returned a name that is not UTF-8.
-    Refused,
+    Refused(Reason),
     OutOfMemory,
 }
 
@@ -26,7 +27,7 @@ impl From<io::Error> for StoreFault {
     fn from(error: io::Error) -> StoreFault {
         match error.kind() {
             ErrorKind::OutOfMemory => StoreFault::OutOfMemory,
-            _ => StoreFault::Refused,
+            _ => StoreFault::Refused(Reason::from(error)),
         }
     }
 }

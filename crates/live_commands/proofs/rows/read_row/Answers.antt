@@ -6,9 +6,9 @@ use Rattle.live_commands.proofs.rows.read_row.Goals as goal
 pub loop-word-init : goal.loop-word-init
 loop-word-init c =
     let t : FitsSigned w64 c.in-Some.time = search rules in
-    let v : FitsSigned w64 c.in-Some-and_then.value = search rules in
-    let read = numbers_read c.args.line.now c.split-words.result c.next.new.self c.next-2.new.self c.next.result c.next-2.result c.in-Some.time c.in-Some-and_then.value c.split-words.ensures.text c.split-words.ensures.pattern c.next.ensures.steps c.in-Some.ensures c.next-2.ensures.steps c.in-Some-and_then.ensures in
-    let begun = row_begins c.args.line.now c.next-2.new.self c.into_iter-word-iterator.result c.new-pairs.result.items c.in-Some.time c.in-Some-and_then.value read c.new-pairs.ensures.items c.into_iter-word-iterator.ensures.into_iter_gives t v in
+    let v : FitsSigned w64 c.in-Some-read_value.value = search rules in
+    let read = numbers_read c.args.line.now c.split-words.result c.next.new.self c.next-2.new.self c.next.result c.in-Some-next.second c.in-Some.time c.in-Some-read_value.value c.split-words.ensures.text c.split-words.ensures.pattern c.next.ensures.steps c.in-Some.ensures c.in-Some-next.ensures.steps c.in-Some-read_value.ensures in
+    let begun = row_begins c.args.line.now c.next-2.new.self c.into_iter-word-iterator.result c.new-pairs.result.items c.in-Some.time c.in-Some-read_value.value read c.new-pairs.ensures.items c.into_iter-word-iterator.ensures.into_iter_gives t v in
     record { read = begun.0; space = begun.1 }
 
 -- one label more was read

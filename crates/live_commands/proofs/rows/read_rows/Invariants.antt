@@ -6,6 +6,6 @@ use Rattle.live_commands.proofs.rows.read_rows.Given as goal
 -- the rows so far are read, and a line's number is one more than their count
 abbrev pub invariant-loop-line : goal.invariant-loop-line
 invariant-loop-line l = record {
-  read : AreReadUpTo (lines_left l.initial.line-iterator) (map row_of l.rows.items) (lines_left l.line-iterator);
+  read : AreReadUpTo l.floats (lines_left l.initial.line-iterator) (map row_of l.rows.items) (lines_left l.line-iterator);
   number : next_number l.line-iterator ≡ vec_len l.rows + 1;
 }

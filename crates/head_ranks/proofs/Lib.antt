@@ -1,0 +1,9 @@
+pub mod Distinct
+pub mod Tables
+pub mod Tallies
+pub mod NameTallies
+pub mod Sets
+pub mod Told
+pub mod Values
+pub mod Orders
+pub mod Worked

@@ -1,0 +1,4 @@
+pub mod Counts
+pub mod Ranks
+pub mod Counting
+pub mod Ranked

@@ -1,0 +1,129 @@
+//! Labels counted one after another.
+
+ghost use Rattle.std.specs.Prelude.{◌≡◌, ◌<◌, ◌++◌, ◌∷◌, [], false, length, List, IfOk, OnOk, sum_by};
+ghost use Rattle.wal_record.specs.Labels.{IsLabelSet, Labels, label};
+ghost use Rattle.head_column.specs.Histories.{History};
+ghost use Rattle.head_series.specs.Table.{labels_at};
+ghost use Rattle.head_core.specs.Heads.{history_at};
+ghost use Rattle.head_ranks.specs.Counts.{has_label};
+ghost use Rattle.head_ranks.specs.Counting.{IsCountOf};
+ghost use Rattle.head_ranks.specs.Ranks.{AreLabelCounts};
+
+use crate::counts::{LabelCount, Totals};
+use head_core::Head;
+use indexmap::IndexSet;
+use std::alloc::{AllocError, Global};
+use wal_record::Slot;
+
+// A label, borrowed from a head.
+#[derive(Clone, Copy, Debug, PartialEq, Eq, Hash)]
+struct LabelKey<'a> {
+    name: &'a [u8],
+    value: &'a [u8],
+}
+
+// The counts of the labels so far, and the labels that they are of, both in the order of first sight.
+struct Counter<'a> {
+    seen: IndexSet<LabelKey<'a>>,
+    counts: Vec<LabelCount<'a>>,
+}
+
+// Written out, so that a function that drops one has a call in its proof, and not a copy of this body.
+impl Drop for Counter<'_> {
+    fn drop(self) {
+        let Counter {
+            seen: _seen,
+            counts: _counts,
+        } = self;
+    }
+}
+
+impl<'a> Counter<'a> {
+    // Makes the counter of no series.
+    fn new(alloc: Global) -> Counter<'a>
+        ensures { IsCountOf [] result }
+    {
+        Counter {
+            seen: IndexSet::new(alloc),
+            counts: Vec::new(alloc),
+        }
+    }
+
+    // Counts one more label of the last series, which has this many samples. Returns an error if out of memory, or if there is no such number.
+    fn add_label(&mut self, name: &'a [u8], value: &'a [u8], samples: u64) -> Result<(), AllocError>
+        ensures { (before : List (Labels × History)) (labels : Labels) (h : History) → samples ≡ length h.samples → has_label (label name.now value.now) labels ≡ false
+            → IsCountOf (before ++ (labels, h) ∷ []) self.old → OnOk result (IsCountOf (before ++ (labels ++ label name.now value.now ∷ [], h) ∷ []) self.new) }
+    {
+        let (at, _) = self.seen.insert_full(LabelKey { name, value })?;
+        if at < self.counts.len() {
+            self.counts[at].add(samples)
+        } else {
+            self.counts.push(LabelCount {
+                name,
+                value,
+                series: 1,
+                samples,
+            })?;
+            Ok(())
+        }
+    }
+
+    // Counts the labels of a series. Returns an error if out of memory, or if there is no such number.
+    fn add_series(&mut self, head: &'a Head, slot: Slot) -> Result<(), AllocError>
+        requires sound { head.now.failed ≡ false }
+        requires slot { slot < length head.now.content.table.series }
+        requires set { IsLabelSet (labels_at head.now.content.table slot) }
+        ensures { (before : List (Labels × History)) → IsCountOf before self.old
+            → OnOk result (IsCountOf (before ++ (labels_at head.now.content.table slot, history_at head.now.content slot) ∷ []) self.new) }
+    {
+        let samples = head.sample_count(slot) as u64;
+        for i in 0..head.pairs(slot) {
+            let (name, value) = head.pair(slot, i);
+            self.add_label(name, value, samples)?;
+        }
+        Ok(())
+    }
+
+    // Returns the counts.
+    fn into_counts(self) -> Vec<LabelCount<'a>>
+        ensures { result ≡ self.entry.counts }
+    {
+        let Counter {
+            seen: _seen,
+            counts,
+        } = self;
+        counts
+    }
+}
+
+/// Returns each label of the head's series once, in the order of first sight, with the number of the series that have it and the number of
+/// their accepted samples. Returns an error if out of memory, or if a number does not fit.
+pub fn label_counts<'a>(alloc: Global, head: &'a Head) -> Result<Vec<LabelCount<'a>>, AllocError>
+    requires { head.now.failed ≡ false }
+    ensures { IfOk result (λ counts. AreLabelCounts head.now.content counts.items) }
+{
+    let mut counter = Counter::new(alloc);
+    let series = head.series() as u32;
+    for number in 0..series {
+        counter.add_series(head, Slot::new(number))?;
+    }
+    Ok(counter.into_counts())
+}
+
+/// Returns the number of a head's series, and the number of their accepted samples. Returns an error if that does not fit.
+pub fn totals(head: &Head) -> Result<Totals, AllocError>
+    requires { head.now.failed ≡ false }
+    ensures series { IfOk result (λ totals. totals.series ≡ length head.now.content.table.series) }
+    ensures samples { IfOk result (λ totals. totals.samples ≡ sum_by (λ h. length h.samples) head.now.content.histories) }
+{
+    let series = head.series() as u32;
+    let mut samples: u64 = 0;
+    for number in 0..series {
+        let more = head.sample_count(Slot::new(number)) as u64;
+        samples = samples.checked_add(more).ok_or(AllocError)?;
+    }
+    Ok(Totals {
+        series: series as u64,
+        samples,
+    })
+}

@@ -1,0 +1,4 @@
+mod Bits
+mod Distinct
+mod Notes
+mod Taken

@@ -1,0 +1,3 @@
+pub mod ReferenceSets
+pub mod Unbound
+pub mod Keeping

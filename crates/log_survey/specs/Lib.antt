@@ -1,0 +1,2 @@
+pub mod Surveys
+pub mod Taking

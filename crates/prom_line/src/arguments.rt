@@ -1,0 +1,136 @@
+//! The arguments of the commands.
+//!
+//! These functions take the lifetime of the words, though their own texts are static: the borrow checker does not shorten a lifetime inside
+//! a `Command`.
+
+use clap::{Arg, ArgAction, Command, value_parser};
+use std::alloc::{AllocError, Global};
+
+pub(crate) fn dir<'a>(alloc: Global) -> Arg<'a> {
+    Arg::new(alloc, "dir")
+        .value_name("DIR")
+        .help("The directory of the log: a server's `wal`")
+        .required(true)
+}
+
+fn workers<'a>(alloc: Global) -> Arg<'a> {
+    Arg::new(alloc, "workers")
+        .long("workers")
+        .value_name("N")
+        .help("How many workers replay the log, 1 to 64")
+        .value_parser(value_parser!(u8).range(1..=64))
+        .default_value("4")
+}
+
+fn round_pages<'a>(alloc: Global) -> Arg<'a> {
+    Arg::new(alloc, "round-pages")
+        .long("round-pages")
+        .value_name("P")
+        .help("How many pages of the log are taken in a round")
+        .value_parser(value_parser!(u32).range(1..=65_536))
+        .default_value("256")
+}
+
+// Returns an option that takes a number with a sign.
+fn number<'a>(alloc: Global, name: &'static str, value_name: &'static str) -> Arg<'a> {
+    Arg::new(alloc, name)
+        .long(name)
+        .value_name(value_name)
+        .value_parser(value_parser!(i64))
+        .allow_negative_numbers(true)
+}
+
+// Returns an option that takes no value.
+fn flag<'a>(alloc: Global, name: &'static str) -> Arg<'a> {
+    Arg::new(alloc, name).long(name).action(ArgAction::SetTrue)
+}
+
+pub(crate) fn min_valid<'a>(alloc: Global) -> Arg<'a> {
+    number(alloc, "min-valid", "M").help(
+        "The least valid time in milliseconds; samples and deletions before it are expired",
+    )
+}
+
+/// Adds the options of replay to a command.
+pub(crate) fn replaying<'a>(
+    alloc: Global,
+    command: Result<Command<'a>, AllocError>,
+) -> Result<Command<'a>, AllocError> {
+    command?
+        .arg(workers(alloc))?
+        .arg(round_pages(alloc))?
+        .arg(min_valid(alloc))
+}
+
+pub(crate) fn pair<'a>(alloc: Global) -> Arg<'a> {
+    Arg::new(alloc, "pair")
+        .long("pair")
+        .value_name("NAME=VALUE")
+        .help("Only the series with this label, spelled as it is printed")
+}
+
+pub(crate) fn json<'a>(alloc: Global) -> Arg<'a> {
+    flag(alloc, "json").help("Print one JSON document")
+}
+
+pub(crate) fn most<'a>(alloc: Global) -> Arg<'a> {
+    Arg::new(alloc, "most")
+        .long("most")
+        .value_name("N")
+        .help("How many lines each list has at most")
+        .value_parser(value_parser!(u32))
+        .default_value("10")
+}
+
+pub(crate) fn from<'a>(alloc: Global) -> Arg<'a> {
+    number(alloc, "from", "T").help("Only samples at this time or later, in milliseconds")
+}
+
+pub(crate) fn to<'a>(alloc: Global) -> Arg<'a> {
+    number(alloc, "to", "T").help("Only samples at this time or earlier, in milliseconds")
+}
+
+pub(crate) fn floats<'a>(alloc: Global) -> Arg<'a> {
+    flag(alloc, "floats").help("Values are floating point numbers, as a server means them")
+}
+
+pub(crate) fn hidden<'a>(alloc: Global) -> Arg<'a> {
+    flag(alloc, "hidden").help("Also samples that deletions hide")
+}
+
+pub(crate) fn hour<'a>(alloc: Global) -> Arg<'a> {
+    number(alloc, "hour", "K")
+        .help("The hour: it begins at K * 3600000 milliseconds")
+        .required(true)
+}
+
+pub(crate) fn ulid<'a>(alloc: Global) -> Arg<'a> {
+    Arg::new(alloc, "ulid")
+        .long("ulid")
+        .value_name("U")
+        .help("The name of the block, a ULID")
+        .required(true)
+}
+
+pub(crate) fn out<'a>(alloc: Global) -> Arg<'a> {
+    Arg::new(alloc, "out")
+        .long("out")
+        .value_name("OUT")
+        .help("The directory in which the block's folder is made")
+        .required(true)
+}
+
+pub(crate) fn path<'a>(alloc: Global) -> Arg<'a> {
+    Arg::new(alloc, "path")
+        .value_name("PATH")
+        .help("The folder of the block")
+        .required(true)
+}
+
+pub(crate) fn rows<'a>(alloc: Global) -> Arg<'a> {
+    Arg::new(alloc, "rows")
+        .long("rows")
+        .value_name("FILE")
+        .help("The rows, a line each: TIME VALUE NAME=VALUE ..")
+        .required(true)
+}

@@ -1,0 +1,163 @@
+//! What a command line asks for.
+
+use crate::commands::program;
+use clap::error::ErrorKind;
+use clap::{ArgMatches, Command, Error};
+use head_replay::Options;
+use prom_store::{
+    AnalyzeRequest, AppendRequest, BlockRequest, CheckpointRequest, CutRequest, DumpRequest,
+    InspectRequest, Request,
+};
+use std::alloc::Global;
+
+/// The request of a command line.
+#[derive(Clone, Copy, Debug, PartialEq, Eq)]
+pub enum Asked<'a> {
+    /// Print what a log holds.
+    OfLog(Request<'a>),
+    /// Print what each file of a log holds.
+    Inspect(InspectRequest<'a>),
+    /// Print what makes a log large.
+    Analyze(AnalyzeRequest<'a>),
+    /// Print the samples of a log.
+    Dump(DumpRequest<'a>),
+    /// List or cut the hours of a log, or print what a block holds.
+    OfBlocks(BlockRequest<'a>),
+    /// Append rows to a log.
+    Append(AppendRequest<'a>),
+    /// Make a checkpoint of a log.
+    Checkpoint(CheckpointRequest<'a>),
+}
+
+// Returns the options of replay. Where no least valid time is given, it is the least of all times, so that nothing is expired.
+fn options(of: &ArgMatches<'_>) -> Option<Options> {
+    Some(Options {
+        workers: usize::from(of.get_one::<u8>("workers")?),
+        round_pages: of.get_one::<u32>("round-pages")? as usize,
+        min_valid: of.get_one("min-valid").unwrap_or(i64::MIN),
+    })
+}
+
+fn of_log<'a>(matches: &ArgMatches<'a>) -> Option<Request<'a>> {
+    match matches.subcommand()? {
+        ("replay", of) => Some(Request::Replay {
+            dir: of.get_str("dir")?,
+            options: options(of)?,
+        }),
+        ("records", of) => Some(Request::Records {
+            dir: of.get_str("dir")?,
+        }),
+        ("series", of) => Some(Request::Series {
+            dir: of.get_str("dir")?,
+            pair: of.get_str("pair"),
+            options: options(of)?,
+        }),
+        _ => None,
+    }
+}
+
+fn of_inspect<'a>(of: &ArgMatches<'a>) -> Option<InspectRequest<'a>> {
+    Some(InspectRequest {
+        dir: of.get_str("dir")?,
+        json: of.get_flag("json"),
+    })
+}
+
+// Whether lines have bars is for the caller to say.
+fn of_analyze<'a>(of: &ArgMatches<'a>) -> Option<AnalyzeRequest<'a>> {
+    Some(AnalyzeRequest {
+        dir: of.get_str("dir")?,
+        most: of.get_one::<u32>("most")? as usize,
+        bars: false,
+        options: options(of)?,
+    })
+}
+
+fn of_dump<'a>(of: &ArgMatches<'a>) -> Option<DumpRequest<'a>> {
+    Some(DumpRequest {
+        dir: of.get_str("dir")?,
+        pair: of.get_str("pair"),
+        from: of.get_one("from").unwrap_or(i64::MIN),
+        to: of.get_one("to").unwrap_or(i64::MAX),
+        floats: of.get_flag("floats"),
+        hidden: of.get_flag("hidden"),
+        options: options(of)?,
+    })
+}
+
+fn of_blocks<'a>(matches: &ArgMatches<'a>) -> Option<BlockRequest<'a>> {
+    match matches.subcommand()? {
+        ("ranges", of) => Some(BlockRequest::Ranges {
+            dir: of.get_str("dir")?,
+            options: options(of)?,
+        }),
+        ("cut", of) => Some(BlockRequest::Cut(CutRequest {
+            dir: of.get_str("dir")?,
+            hour: of.get_one("hour")?,
+            ulid: of.get_str("ulid")?,
+            out: of.get_str("out")?,
+            options: options(of)?,
+        })),
+        ("block", of) => Some(BlockRequest::Block {
+            path: of.get_str("path")?,
+        }),
+        _ => None,
+    }
+}
+
+fn of_append<'a>(of: &ArgMatches<'a>) -> Option<AppendRequest<'a>> {
+    Some(AppendRequest {
+        dir: of.get_str("dir")?,
+        rows: of.get_str("rows")?,
+        floats: of.get_flag("floats"),
+        options: options(of)?,
+    })
+}
+
+fn of_checkpoint<'a>(of: &ArgMatches<'a>) -> Option<CheckpointRequest<'a>> {
+    Some(CheckpointRequest {
+        dir: of.get_str("dir")?,
+        min_valid: of.get_one("min-valid")?,
+    })
+}
+
+fn of_others<'a>(matches: &ArgMatches<'a>) -> Option<Asked<'a>> {
+    match matches.subcommand()? {
+        ("inspect", of) => Some(Asked::Inspect(of_inspect(of)?)),
+        ("analyze", of) => Some(Asked::Analyze(of_analyze(of)?)),
+        ("dump", of) => Some(Asked::Dump(of_dump(of)?)),
+        ("append", of) => Some(Asked::Append(of_append(of)?)),
+        ("checkpoint", of) => Some(Asked::Checkpoint(of_checkpoint(of)?)),
+        _ => None,
+    }
+}
+
+fn requested<'a>(matches: &ArgMatches<'a>) -> Option<Asked<'a>> {
+    if let Some(request) = of_log(matches) {
+        return Some(Asked::OfLog(request));
+    }
+    if let Some(request) = of_blocks(matches) {
+        return Some(Asked::OfBlocks(request));
+    }
+    of_others(matches)
+}
+
+fn matched<'a>(command: &mut Command<'a>, words: &'a [String]) -> Result<Option<Asked<'a>>, Error> {
+    let matches = command.try_get_matches_from_mut(words)?;
+    Ok(requested(&matches))
+}
+
+fn parsed<'a>(command: &mut Command<'a>, words: &'a [String]) -> Result<Asked<'a>, Error> {
+    match matched(command, words)? {
+        Some(asked) => Ok(asked),
+        // not reached: clap has checked that there is a subcommand with its arguments
+        None => Err(command.error(ErrorKind::MissingSubcommand, "a command is missing")?),
+    }
+}
+
+/// Parses a command line, whose first word is the program's name. A request for help or for the version is an `Err` too, with the text to
+/// print.
+pub fn parse<'a>(alloc: Global, words: &'a [String]) -> Result<Asked<'a>, Error> {
+    let mut command = program(alloc)?;
+    parsed(&mut command, words)
+}

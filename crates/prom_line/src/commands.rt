@@ -1,0 +1,130 @@
+//! The commands, by `clap`.
+
+use crate::arguments::*;
+use crate::texts;
+use clap::{Arg, Command};
+use std::alloc::{AllocError, Global};
+
+/// The program's version, and the kit that proved it.
+const VERSION: &str = "0.9.0 (rattle-kit-13f)";
+
+// Makes a command of this name. `long_help` is what its help says last.
+fn named<'a>(
+    alloc: Global,
+    name: &'static str,
+    about: &'static str,
+    long_help: &'static str,
+) -> Command<'a> {
+    Command::new(alloc, name)
+        .about(about)
+        .after_long_help(long_help)
+}
+
+// Makes a command on the log in a directory.
+fn on_log<'a>(
+    alloc: Global,
+    name: &'static str,
+    about: &'static str,
+    long_help: &'static str,
+) -> Result<Command<'a>, AllocError> {
+    named(alloc, name, about, long_help).arg(dir(alloc))
+}
+
+// Adds an argument to a command.
+fn also<'a>(
+    command: Result<Command<'a>, AllocError>,
+    argument: Arg<'a>,
+) -> Result<Command<'a>, AllocError> {
+    command?.arg(argument)
+}
+
+fn replay<'a>(alloc: Global) -> Result<Command<'a>, AllocError> {
+    let command = on_log(alloc, "replay", "Counts what the log holds", texts::REPLAY);
+    replaying(alloc, command)
+}
+
+fn records<'a>(alloc: Global) -> Result<Command<'a>, AllocError> {
+    let about = "Lists the records of the log";
+    on_log(alloc, "records", about, texts::RECORDS)
+}
+
+fn inspect<'a>(alloc: Global) -> Result<Command<'a>, AllocError> {
+    let about = "Says what each file of the log holds, and what may be lost";
+    let command = on_log(alloc, "inspect", about, texts::INSPECT);
+    also(command, json(alloc))
+}
+
+fn series<'a>(alloc: Global) -> Result<Command<'a>, AllocError> {
+    let about = "Lists the series of the log";
+    let command = on_log(alloc, "series", about, texts::SERIES);
+    replaying(alloc, also(command, pair(alloc)))
+}
+
+fn analyze<'a>(alloc: Global) -> Result<Command<'a>, AllocError> {
+    let about = "Says which metrics and labels make the log large";
+    let command = on_log(alloc, "analyze", about, texts::ANALYZE);
+    replaying(alloc, also(command, most(alloc)))
+}
+
+fn dump<'a>(alloc: Global) -> Result<Command<'a>, AllocError> {
+    let command = on_log(alloc, "dump", "Prints the samples of the log", texts::DUMP);
+    let command = also(also(command, pair(alloc)), from(alloc));
+    let command = also(also(command, to(alloc)), floats(alloc));
+    replaying(alloc, also(command, hidden(alloc)))
+}
+
+fn ranges<'a>(alloc: Global) -> Result<Command<'a>, AllocError> {
+    let about = "Lists the hours of the log that can be cut";
+    replaying(alloc, on_log(alloc, "ranges", about, texts::RANGES))
+}
+
+fn cut<'a>(alloc: Global) -> Result<Command<'a>, AllocError> {
+    let about = "Cuts an hour of the log into a block";
+    let command = on_log(alloc, "cut", about, texts::CUT);
+    let command = also(also(command, hour(alloc)), ulid(alloc));
+    replaying(alloc, also(command, out(alloc)))
+}
+
+fn block<'a>(alloc: Global) -> Result<Command<'a>, AllocError> {
+    named(alloc, "block", "Says what a block holds", texts::BLOCK).arg(path(alloc))
+}
+
+fn append<'a>(alloc: Global) -> Result<Command<'a>, AllocError> {
+    let about = "Appends rows to the log, in a new segment";
+    let command = on_log(alloc, "append", about, texts::APPEND);
+    let command = also(also(command, rows(alloc)), floats(alloc));
+    replaying(alloc, command)
+}
+
+fn checkpoint<'a>(alloc: Global) -> Result<Command<'a>, AllocError> {
+    let about = "Makes a checkpoint of the log";
+    let command = on_log(alloc, "checkpoint", about, texts::CHECKPOINT);
+    also(command, min_valid(alloc).required(true))
+}
+
+// Adds a subcommand. It is the one place where an unfinished command is dropped, which is dear to prove.
+fn with<'a>(
+    command: Command<'a>,
+    below: Result<Command<'a>, AllocError>,
+) -> Result<Command<'a>, AllocError> {
+    command.subcommand(below?)
+}
+
+/// Makes the program's command with all its subcommands.
+pub(crate) fn program<'a>(alloc: Global) -> Result<Command<'a>, AllocError> {
+    let about = "Reads a write-ahead log of samples, cuts it into blocks, and goes on writing it";
+    let command = named(alloc, "prom_head", about, texts::PROGRAM)
+        .version(VERSION)
+        .subcommand_required(true);
+    let command = with(command, inspect(alloc))?;
+    let command = with(command, replay(alloc))?;
+    let command = with(command, records(alloc))?;
+    let command = with(command, series(alloc))?;
+    let command = with(command, analyze(alloc))?;
+    let command = with(command, dump(alloc))?;
+    let command = with(command, ranges(alloc))?;
+    let command = with(command, cut(alloc))?;
+    let command = with(command, block(alloc))?;
+    let command = with(command, append(alloc))?;
+    with(command, checkpoint(alloc))
+}

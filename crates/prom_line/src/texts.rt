@@ -1,0 +1,157 @@
+//! What `--help` says behind a command's options: what it writes, an example, and its exit statuses.
+
+pub(crate) const REPLAY: &str = "\
+Writes nothing. The last line is `damage none`, or says where the log is damaged and how.
+
+Example:
+  prom_head replay /var/lib/prometheus/metrics2/wal
+
+Exit status:
+  0  the log was read to its end
+  1  the log is damaged: what is before the damage was counted
+  2  the command line is wrong
+  3  a file cannot be read, or the log has too much for a head
+  4  out of memory, or a thread could not start";
+
+pub(crate) const RECORDS: &str = "\
+Writes nothing. The last line is `damage none`, or says where the log is damaged and how.
+
+Example:
+  prom_head records /var/lib/prometheus/metrics2/wal | tail -1
+
+Exit status:
+  0  the log was read to its end
+  1  the log is damaged: the records before the damage were listed
+  2  the command line is wrong
+  3  a file cannot be read
+  4  out of memory";
+
+pub(crate) const INSPECT: &str = "\
+Writes nothing. Each file is read by itself, also behind one that is damaged. Notes say what
+may be lost.
+
+Example:
+  prom_head inspect /var/lib/prometheus/metrics2/wal
+
+Exit status:
+  0  each file was read to its end, and there is nothing to note
+  1  there is a note: something may be lost, or no log is there
+  2  the command line is wrong
+  3  a file cannot be read
+  4  out of memory";
+
+pub(crate) const SERIES: &str = "\
+Writes nothing.
+
+Example:
+  prom_head series /var/lib/prometheus/metrics2/wal --pair job=prometheus
+
+Exit status:
+  0  the log was read to its end
+  1  the log is damaged: the series before the damage were listed
+  2  the command line is wrong
+  3  a file cannot be read, or the log has too much for a head
+  4  out of memory, or a thread could not start";
+
+pub(crate) const ANALYZE: &str = "\
+Writes nothing. Lists label names by their values, metrics by series and by samples, and
+labels by series, each greatest first.
+
+Example:
+  prom_head analyze /var/lib/prometheus/metrics2/wal --most 20
+
+Exit status:
+  0  the log was read to its end
+  1  the log is damaged: what is before the damage was counted
+  2  the command line is wrong
+  3  a file cannot be read, or the log has too much for a head
+  4  out of memory, or a thread could not start";
+
+pub(crate) const DUMP: &str = "\
+Writes nothing. A line is the labels of a series, a time in milliseconds, and a value: a whole
+number, the 64 bits that the log holds. A server means a floating point number by these bits:
+--floats prints that.
+
+Example:
+  prom_head dump /var/lib/prometheus/metrics2/wal --pair __name__=up --floats
+
+Exit status:
+  0  the log was read to its end
+  1  the log is damaged: the samples before the damage were printed
+  2  the command line is wrong
+  3  a file cannot be read, or the log has too much for a head
+  4  out of memory, or a thread could not start";
+
+pub(crate) const RANGES: &str = "\
+Writes nothing.
+
+Example:
+  prom_head ranges /var/lib/prometheus/metrics2/wal
+
+Exit status:
+  0  the log was read to its end
+  1  the log is damaged: the hours before the damage were listed
+  2  the command line is wrong
+  3  a file cannot be read, or the log has too much for a head
+  4  out of memory, or a thread could not start";
+
+pub(crate) const CUT: &str = "\
+Writes the folder OUT/U, and nothing else. The log stays as it is. A crash leaves no half block.
+
+Example:
+  prom_head cut wal --hour 472222 --ulid 01ARZ3NDEKTSV4RRFFQ69G5FAV --out blocks
+
+Exit status:
+  0  the block is on the device
+  1  the log is damaged: nothing was written
+  2  the command line is wrong
+  3  a file cannot be read or written, or the hour cannot be cut
+  4  out of memory, or a thread could not start: nothing was written";
+
+pub(crate) const BLOCK: &str = "\
+Writes nothing.
+
+Example:
+  prom_head block blocks/01ARZ3NDEKTSV4RRFFQ69G5FAV
+
+Exit status:
+  0  the block is sound
+  1  a part of the block is refused
+  2  the command line is wrong
+  3  a file cannot be read
+  4  out of memory";
+
+pub(crate) const APPEND: &str = "\
+Writes a new segment into DIR, one past the last. A row is a time in milliseconds, a value, and
+labels in the order of their names. A value is a whole number: the 64 bits that the log gets. A
+server takes these bits for a floating point number, and 8 for 4e-323: with --floats values are
+floating point numbers, and 8 is 8. Run it while no server has the log open.
+
+Example:
+  printf '1700000000000 1 __name__=up job=node\\n' > rows
+  prom_head append wal --rows rows --floats
+
+Exit status:
+  0  the accepted rows are on the device
+  1  the log is damaged: nothing was written
+  2  the command line is wrong
+  3  a file cannot be read or written, or a line is not a row: nothing was appended
+  4  out of memory, or a thread could not start: nothing was appended";
+
+pub(crate) const CHECKPOINT: &str = "\
+Writes the folder checkpoint.NUMBER into DIR, and removes nothing. Run it while no server has
+the log open.
+
+Example:
+  prom_head checkpoint wal --min-valid 1700000000000
+
+Exit status:
+  0  the checkpoint is on the device
+  1  the log is damaged: nothing was written
+  2  the command line is wrong
+  3  a file cannot be read or written, or there is no log
+  4  out of memory: nothing was written";
+
+pub(crate) const PROGRAM: &str = "\
+DIR is the directory `wal` of a server, under its data directory, or a copy of it. `prom_head
+help COMMAND` says what a command writes, with an example and its exit statuses.";

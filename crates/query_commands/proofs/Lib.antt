@@ -1,0 +1,4 @@
+pub mod RunSearch
+pub mod Growing
+pub mod Dumped
+pub mod Requested

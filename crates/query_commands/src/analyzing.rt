@@ -1,0 +1,73 @@
+//! The command `analyze`, over any store.
+
+ghost use Rattle.std.specs.Prelude.{◌≡◌, false};
+
+use crate::analysis::{Layout, analysis_text};
+use crate::replaying::replay_in;
+use head_core::Head;
+use head_ranks::{label_counts, metrics, name_counts, totals};
+use head_replay::Replayed;
+use prom_commands::{Answer, Progress};
+use prom_store::{AnalyzeRequest, Fault, Store};
+use std::alloc::{AllocError, Global};
+use std::sync::Wait;
+use std::thread::Threads;
+
+// Returns the analysis of a head.
+fn analysis_of(alloc: Global, head: &Head, layout: Layout) -> Result<String, AllocError>
+    requires { head.now.failed ≡ false }
+{
+    let totals = totals(head)?;
+    let mut labels = label_counts(alloc, head)?;
+    let mut metrics = metrics(alloc, &labels)?;
+    let mut names = name_counts(alloc, &labels)?;
+    analysis_text(
+        alloc,
+        &totals,
+        &mut names,
+        &mut metrics,
+        &mut labels,
+        layout,
+    )
+}
+
+// Prints the analysis of a replayed log.
+fn analyzed(alloc: Global, replayed: &Replayed, layout: Layout) -> Result<Answer, Fault>
+    requires { replayed.now.head.failed ≡ false }
+{
+    let text = analysis_of(alloc, &replayed.head, layout)?;
+    Ok(Answer::up_to(text, replayed.damage))
+}
+
+fn execute<R: Threads + Wait + Sync, S: Store, P: Progress + Sync>(
+    rt: &R,
+    alloc: Global,
+    store: &S,
+    progress: &P,
+    request: AnalyzeRequest<'_>,
+) -> Result<Answer, Fault> {
+    let AnalyzeRequest {
+        dir,
+        most,
+        bars,
+        options,
+    } = request;
+    let replayed = replay_in(rt, alloc, store, progress, dir, &options)?;
+    analyzed(alloc, &replayed, Layout { most, bars })
+}
+
+/// Carries out a request, which changes nothing in the store: prints the numbers of series, samples, metrics, names and labels, the names
+/// with the most values, the metrics with the most series and samples, and the labels with the most series, each with its share.
+/// `progress` hears how far the replay is. If the log is damaged, what it holds before the damage is analyzed.
+pub fn carry_out_analyze<R: Threads + Wait + Sync, S: Store, P: Progress + Sync>(
+    rt: &R,
+    alloc: Global,
+    store: &S,
+    progress: &P,
+    request: AnalyzeRequest<'_>,
+) -> Answer {
+    match execute(rt, alloc, store, progress, request) {
+        Ok(answer) => answer,
+        Err(fault) => Answer::failed(alloc, fault),
+    }
+}

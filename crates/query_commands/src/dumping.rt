@@ -1,0 +1,96 @@
+//! The command `dump`, over any store.
+
+ghost use Rattle.std.specs.Prelude.{◌≡◌, IfOk, false, string_bytes};
+ghost use Rattle.std.specs.Option.{option_map};
+ghost use Rattle.head_core.specs.Heads.{AreSlots};
+ghost use Rattle.prom_store.specs.Views.{view_of};
+ghost use Rattle.query_commands.specs.Dumps.{IsDump};
+ghost use Rattle.query_commands.specs.Requests.{IsDumpIn, slots_of};
+
+use crate::lines::dump_text;
+use crate::replaying::replay_in;
+use crate::selection::Selection;
+use head_core::{Head, Slot};
+use head_replay::Replayed;
+use prom_commands::{Answer, Pair, Progress, pair_of};
+use prom_store::{DumpRequest, Fault, Status, Store};
+use std::alloc::Global;
+use std::sync::Wait;
+use std::thread::Threads;
+
+// Returns the slots of the series that have this label, or of all series.
+fn slots_of<'a>(head: &'a Head, pair: &Option<Pair>) -> &'a [Slot]
+    requires { head.now.failed ≡ false }
+    ensures slots { result.now ≡ slots_of head.now.content (option_map (λ p. (p.0.items, p.1.items)) pair.now) }
+    ensures within { AreSlots head.now.content result.now }
+{
+    match pair {
+        Some((name, value)) => head.select(name, value),
+        None => head.all(),
+    }
+}
+
+// Prints the samples that are selected of a replayed log, of the series that have this label, one a line.
+fn dumped(
+    alloc: Global,
+    replayed: &Replayed,
+    pair: &Option<Pair>,
+    selection: &Selection,
+    floats: bool,
+) -> Result<Answer, Fault>
+    requires { replayed.now.head.failed ≡ false }
+    ensures dump { IfOk result (λ answer. IsDump floats selection.now replayed.now.head.content
+        (slots_of replayed.now.head.content (option_map (λ p. (p.0.items, p.1.items)) pair.now)) (string_bytes answer.printed)) }
+    ensures done { IfOk result (λ answer. answer.status ≡ Status.Done → replayed.now.damage ≡ None) }
+{
+    let head = &replayed.head;
+    let text = dump_text(alloc, head, slots_of(head, pair), selection, floats)?;
+    Ok(Answer::up_to(text, replayed.damage))
+}
+
+// Returns which samples a request selects.
+fn selection_of(request: &DumpRequest<'_>) -> Selection
+    ensures { result ≡ record { from = request.now.from; to = request.now.to; with_hidden = request.now.hidden } }
+{
+    Selection {
+        from: request.from,
+        to: request.to,
+        with_hidden: request.hidden,
+    }
+}
+
+fn execute<R: Threads + Wait + Sync, S: Store, P: Progress + Sync>(
+    rt: &R,
+    alloc: Global,
+    store: &S,
+    progress: &P,
+    request: DumpRequest<'_>,
+) -> Result<Answer, Fault>
+    ensures { IfOk result (λ answer. answer.status ≡ Status.Done → IsDumpIn (view_of (S.holds store.now)) request.entry.dir.now
+        (option_map (λ w. w.now) request.entry.pair) request.entry.options.min_valid (record { from = request.entry.from; to = request.entry.to; with_hidden = request.entry.hidden }) request.entry.floats None
+        (string_bytes answer.printed)) }
+{
+    let pair = pair_of(alloc, request.pair)?;
+    let selection = selection_of(&request);
+    let replayed = replay_in(rt, alloc, store, progress, request.dir, &request.options)?;
+    dumped(alloc, &replayed, &pair, &selection, request.floats)
+}
+
+/// Carries out a request, which changes nothing in the store: prints a line for each sample, series by slot and samples by time, as
+/// `dump_text` does. `progress` hears how far the replay is. If the log is damaged, what it holds before the damage is printed.
+pub fn carry_out_dump<R: Threads + Wait + Sync, S: Store, P: Progress + Sync>(
+    rt: &R,
+    alloc: Global,
+    store: &S,
+    progress: &P,
+    request: DumpRequest<'_>,
+) -> Answer
+    ensures { result.status ≡ Status.Done → IsDumpIn (view_of (S.holds store.now)) request.entry.dir.now
+        (option_map (λ w. w.now) request.entry.pair) request.entry.options.min_valid (record { from = request.entry.from; to = request.entry.to; with_hidden = request.entry.hidden }) request.entry.floats None
+        (string_bytes result.printed) }
+{
+    match execute(rt, alloc, store, progress, request) {
+        Ok(answer) => answer,
+        Err(fault) => Answer::failed(alloc, fault),
+    }
+}

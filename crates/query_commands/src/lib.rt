@@ -1,0 +1,15 @@
+//! The commands `dump` and `analyze`, over any store: which samples a log has, and which labels have the most series and samples.
+#![tactic(auto)]
+
+mod analysis;
+mod analyzing;
+mod bars;
+mod dumping;
+mod lines;
+mod replaying;
+mod selection;
+
+pub use analyzing::carry_out_analyze;
+pub use dumping::carry_out_dump;
+pub use lines::dump_text;
+pub use selection::{Selection, shown_samples};

@@ -1,0 +1,5 @@
+pub mod Files
+pub mod Sums
+pub mod Remarks
+pub mod Remarking
+pub mod Inspections
