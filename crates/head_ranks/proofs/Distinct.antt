@@ -1,6 +1,6 @@
 -- Elements without repeats, and what is found among them.
-use Rattle.std.proofs.Common.{◌≡◌, ℕ, suc, Bool, true, false, List, [], ◌∷◌, ◌++◌, length, refl, sym, ap, subst, ◌∙◌}
-use Rattle.std.specs.Prelude.{◌||◌, map, if◌then◌else◌, slice_set}
+use Rattle.std.proofs.Common.{◌≡◌, ℕ, zero, suc, ◌<◌, Bool, true, false, List, [], ◌∷◌, ◌++◌, length, refl, sym, ap, subst, ◌∙◌, arith}
+use Rattle.std.specs.Prelude.{◌||◌, map, if◌then◌else◌, slice_index_or, slice_set}
 use Rattle.std.specs.Cmp.{IsEquivalence}
 use Rattle.std.specs.List.{AllByRecursion, IsDistinct, list_any}
 use Rattle.std.proofs.Math.Seq.{set-append_seam}
@@ -43,6 +43,14 @@ module _ {K : Type 0} (same : K → K → Bool) (law : IsEquivalence same) (exac
     pub back : List K
     pub parts : ks ≡ front ++ x ∷ back
     pub long : length front ≡ i
+
+  -- the element at a place is found there
+  pub found_at : (ks : List K) (i : ℕ) (x d : K) → i < length ks → slice_index_or ks i d ≡ x → IsFound x ks i
+  found_at [] i x d h e = absurd (omega arith)
+  found_at (k ∷ ks) zero x d h e = record { front = []; back = ks; parts = ap (λ z. z ∷ ks) e; long = refl }
+  found_at (k ∷ ks) (suc i) x d h e =
+      let deep = found_at ks i x d (let less : suc i < suc (length ks) = h in omega (arith, less)) e in
+      record { front = k ∷ deep.front; back = deep.back; parts = ap (λ z. k ∷ z) deep.parts; long = ap suc deep.long }
 
   -- x is one of these, as a test
   pub any_found : (x : K) (front back : List K) → list_any (same x) (front ++ x ∷ back) ≡ true

@@ -47,28 +47,35 @@ module _ {L : Type 0} (same : L → L → Bool) (law : IsEquivalence same) (exac
     pub as_many : length cs ≡ length ks
     as_many = sym (length-map cs shown) ∙ ap length counts ∙ length-map (distinct same ls) f ∙ ap length (sym seen) ∙ length-map ks lab
 
+    any_of : (ds : List L) (i : ℕ) → IsFound same law exact (lab k) ds i → list_any (same (lab k)) ds ≡ true
+    any_of ds i p = ap (list_any (same (lab k))) p.parts ∙ any_found same law exact (lab k) p.front p.back
+
+    -- a key that was there changes no keys
+    pub seen_here : (at : ℕ) → IsFound same law exact (lab k) (distinct same ls) at → map lab ks ≡ distinct same (ls ++ lab k ∷ [])
+    seen_here at here = seen ∙ sym (distinct_old same law exact ls (lab k) (any_of (distinct same ls) at here))
+
     -- a key that was there has one count more
-    pub counts_old : (at : ℕ) → at ≡ at_in lab (lab k) ks → at < length cs → (c old : C) → old ≡ slice_index_or cs at old → (shown old ≡ f (lab k) → shown c ≡ g (lab k))
+    pub counts_here : (at : ℕ) → IsFound same law exact (lab k) (distinct same ls) at → at < length cs → (c old : C) → old ≡ slice_index_or cs at old → (shown old ≡ f (lab k) → shown c ≡ g (lab k))
         → map shown (slice_set cs at c) ≡ map g (distinct same (ls ++ lab k ∷ []))
-    counts_old at is within c old was step =
-        let there : IsFound same law exact (lab k) (map lab ks) (at_in lab (lab k) ks) = found lab (lab k) ks (let many = as_many in omega arith) in
-        let here : IsFound same law exact (lab k) (distinct same ls) at = subst (IsFound same law exact (lab k) (distinct same ls)) (sym is) (subst (λ ds. IsFound same law exact (lab k) ds (at_in lab (lab k) ks)) seen there) in
-        let any : list_any (same (lab k)) (distinct same ls) ≡ true = any_of (distinct same ls) at here in
+    counts_here at here within c old was step =
         let said : shown old ≡ f (lab k) = ap shown was ∙ sym (get_or-map shown cs at old (shown old) within) ∙ ap (λ ss. slice_index_or ss at (shown old)) counts ∙ map_at f (distinct same ls) at (shown old) here in
         map-set shown cs at c
         ∙ ap (λ ss. slice_set ss at (shown c)) counts
         ∙ ap (slice_set (map f (distinct same ls)) at) (step said)
         ∙ map_set same law exact f g (lab k) alike (distinct same ls) at (distinct-IsDistinct same law exact ls) here
-        ∙ ap (map g) (sym (distinct_old same law exact ls (lab k) any)) where
-          any_of : (ds : List L) (i : ℕ) → IsFound same law exact (lab k) ds i → list_any (same (lab k)) ds ≡ true
-          any_of ds i p = ap (list_any (same (lab k))) p.parts ∙ any_found same law exact (lab k) p.front p.back
-
+        ∙ ap (map g) (sym (distinct_old same law exact ls (lab k) (any_of (distinct same ls) at here))) where
           map_at : (h : L → S) (ds : List L) (i : ℕ) (d : S) → IsFound same law exact (lab k) ds i → slice_index_or (map h ds) i d ≡ h (lab k)
           map_at h ds i d p =
               ap (λ zs. slice_index_or (map h zs) i d) p.parts
               ∙ ap (λ zs. slice_index_or zs i d) (map-append h p.front (lab k ∷ p.back))
               ∙ ap (λ n. slice_index_or (map h p.front ++ h (lab k) ∷ map h p.back) n d) (sym (length-map p.front h ∙ p.long))
               ∙ get_or-append_seam (map h p.front) (h (lab k)) (map h p.back) d
+
+    pub counts_old : (at : ℕ) → at ≡ at_in lab (lab k) ks → at < length cs → (c old : C) → old ≡ slice_index_or cs at old → (shown old ≡ f (lab k) → shown c ≡ g (lab k))
+        → map shown (slice_set cs at c) ≡ map g (distinct same (ls ++ lab k ∷ []))
+    counts_old at is within =
+        let there : IsFound same law exact (lab k) (map lab ks) (at_in lab (lab k) ks) = found lab (lab k) ks (let many = as_many in omega arith) in
+        counts_here at (subst (IsFound same law exact (lab k) (distinct same ls)) (sym is) (subst (λ ds. IsFound same law exact (lab k) ds (at_in lab (lab k) ks)) seen there)) within
 
     -- a key that is new has the last count
     pub counts_new : (at : ℕ) → at ≡ at_in lab (lab k) ks → length cs ≤ at → (c : C) → (list_any (same (lab k)) (distinct same ls) ≡ false → shown c ≡ g (lab k))

@@ -1,8 +1,9 @@
 -- The tallies of series with one label more, and of labels with one more.
 use Rattle.std.proofs.Common.{◌≡◌, ℕ, ◌+◌, ◌<◌, ◌≤◌, Bool, true, false, cond, List, [], ◌∷◌, ◌++◌, length, map, refl, sym, ap, ◌∙◌, arith, append_assoc}
-use Rattle.std.specs.Prelude.{◌&&◌, ◌||◌, count_by, slice_set, slice_index_or}
+use Rattle.std.specs.Prelude.{◌&&◌, ◌||◌, All, count_by, slice_set, slice_index_or}
 use Rattle.std.specs.List.{list_any}
-use Rattle.std.proofs.lemmas.List.Elements.{filter-append}
+use Rattle.std.proofs.lemmas.List.{get_or-map, length-map}
+use Rattle.std.proofs.lemmas.List.Elements.{All-cons, All-nil, filter-append}
 use Rattle.std.proofs.lemmas.List.Folds.{list_any-append}
 use Rattle.std.proofs.lemmas.List.Sums.{sum_by-append, sum_by-cons, sum_by_push}
 use Rattle.indexmap.specs.IndexSet.{insert_key}
@@ -18,7 +19,8 @@ use Rattle.head_ranks.specs.declared.counting.Counter.{Counter}
 use Rattle.head_ranks.specs.declared.counting.LabelKey.{LabelKey}
 use Rattle.head_ranks.specs.Counts.{has_label, label_of, samples_of, with_label}
 use Rattle.head_ranks.specs.Counting.{IsCountOf, key_label, labels_of, said, tally_of}
-use Rattle.head_ranks.proofs.Tables.{at_in, counts_new, counts_old, seen_on}
+use Rattle.head_ranks.proofs.Distinct.{IsFound, found_at}
+use Rattle.head_ranks.proofs.Tables.{at_in, counts_here, counts_new, counts_old, seen_here, seen_on}
 
 both : (a b : Bool) → (a && b) ≡ true → (a ≡ true) × (b ≡ true)
 both true b h = (refl, h)
@@ -47,6 +49,21 @@ none_of x (s ∷ series) h =
       by : (b : Bool) → b ≡ false → samples_of (with_label x series) ≡ 0 → samples_of (cond b (s ∷ with_label x series) (with_label x series)) ≡ 0
       by true e f = absurd cc
       by false e f = f
+
+-- what counts say, one by one
+pub each_says : (series : List (Labels × History)) (counts : List LabelCount) (ds : List Label) → map said counts ≡ map (tally_of series) ds
+    → (map label_of counts ≡ ds) × All (λ k. said k ≡ tally_of series (label_of k)) counts
+each_says series [] [] h = (refl, All-nil (λ (k : LabelCount). said k ≡ tally_of series (label_of k)))
+each_says series [] (d ∷ ds) h = absurd cc
+each_says series (k ∷ counts) [] h = absurd cc
+each_says series (k ∷ counts) (d ∷ ds) h =
+    let first : said k ≡ tally_of series d = cc in
+    let rest : map said counts ≡ map (tally_of series) ds = cc in
+    let of : label_of k ≡ d = ap (λ (t : Label × ℕ × ℕ). t.0) first in
+    let deep = each_says series counts ds rest in (
+      ap (λ (l : Label). l ∷ map label_of counts) of ∙ ap (λ (ls : List Label). d ∷ ls) deep.0,
+      All-cons (λ (m : LabelCount). said m ≡ tally_of series (label_of m)) k counts (first ∙ ap (tally_of series) (sym of)) deep.1,
+    )
 
 module _ (before : List (Labels × History)) (labels : Labels) (h : History) where
   -- what a last series adds to a tally, if it has the label
@@ -111,6 +128,28 @@ module _ (before : List (Labels × History)) (labels : Labels) (h : History) whe
         ∙ ap (λ (n : ℕ). (x, n, c.samples)) (let e : c.series ≡ count_by (λ (s : Labels × History). has_label x s.0) before + 1 = omega (arith, series, no_series) in e)
         ∙ ap (λ (n : ℕ). (x, count_by (λ (s : Labels × History). has_label x s.0) before + 1, n)) (let e : c.samples ≡ samples_of (with_label x before) + length h.samples = omega (arith, samples, no_samples) in e)
         ∙ sym at_next
+
+  module _ (k : LabelKey) (once : has_label (key_label k) labels ≡ false) (c d : Counter) (at : ℕ) (new : LabelCount) (is : IsCountOf (before ++ (labels, h) ∷ []) c) where
+    -- the label whose count is at a place has one count more, and no key is new
+    pub label_hinted : (old : LabelCount) → label_of old ≡ key_label k → d.seen.keys ≡ c.seen.keys → label_of new ≡ label_of old → at < length c.counts.items → d.counts.items ≡ slice_set c.counts.items at new
+        → old ≡ slice_index_or c.counts.items at old → new.series ≡ old.series + 1 → new.samples ≡ old.samples + length h.samples → IsCountOf (before ++ (labels ++ key_label k ∷ [], h) ∷ []) d
+    label_hinted old of kept_keys kept within set was series samples =
+        let ds : List Label = distinct same_label (labels_of (now (key_label k) once)) in
+        let labels_are : map label_of c.counts.items ≡ ds = (each_says (now (key_label k) once) c.counts.items ds is.counts).0 in
+        let long : length ds ≡ length c.counts.items = ap length (sym labels_are) ∙ length-map c.counts.items label_of in
+        let is_at : slice_index_or ds at (label_of old) ≡ key_label k =
+        ap (λ (ls : List Label). slice_index_or ls at (label_of old)) (sym labels_are) ∙ get_or-map label_of c.counts.items at old (label_of old) within ∙ ap label_of (sym was) ∙ of in
+        let here : IsFound same_label label_equiv label_exact (key_label k) ds at = found_at same_label label_equiv label_exact ds at (key_label k) (label_of old) (omega (arith, long, within)) is_at in
+        record {
+          seen =
+              ap (map key_label) kept_keys
+              ∙ seen_here same_label label_equiv label_exact key_label said (tally_of (now (key_label k) once)) (tally_of (next (key_label k) once)) (labels_of (now (key_label k) once)) k c.seen.keys c.counts.items (alike (key_label k) once) is.seen is.counts at here
+              ∙ ap (distinct same_label) (sym (labels_on (key_label k) once));
+          counts =
+              ap (map said) set
+              ∙ counts_here same_label label_equiv label_exact key_label said (tally_of (now (key_label k) once)) (tally_of (next (key_label k) once)) (labels_of (now (key_label k) once)) k c.seen.keys c.counts.items (alike (key_label k) once) is.seen is.counts at here within new old was (step_old (key_label k) once new old kept series samples)
+              ∙ ap (λ (ls : List Label). map (tally_of (next (key_label k) once)) (distinct same_label ls)) (sym (labels_on (key_label k) once));
+        }
 
   module _ (k : LabelKey) (once : has_label (key_label k) labels ≡ false) (c d : Counter) (at : ℕ) (new : LabelCount) (is : IsCountOf (before ++ (labels, h) ∷ []) c)
       (keys : d.seen.keys ≡ insert_key (λ a b. same_label (key_label a) (key_label b)) c.seen.keys k) (place : at ≡ at_in same_label label_equiv label_exact key_label (key_label k) c.seen.keys) where

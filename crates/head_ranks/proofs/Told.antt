@@ -1,8 +1,7 @@
 -- From the series of a head, one after another, to what is told of it.
 use Rattle.std.proofs.Common.{◌≡◌, ℕ, zero, suc, ◌+◌, ◌<◌, ◌≤◌, false, cond, List, [], ◌∷◌, ◌++◌, length, map, take, refl, sym, ap, subst, ◌∙◌, arith}
-use Rattle.std.specs.Prelude.{All, count_by, slice_get, slice_index_or, sum_by, unwrap_or, zip}
+use Rattle.std.specs.Prelude.{count_by, slice_get, slice_index_or, sum_by, unwrap_or, zip}
 use Rattle.std.proofs.lemmas.List.{append-nil, take_all}
-use Rattle.std.proofs.lemmas.List.Elements.{All-cons, All-nil}
 use Rattle.std.proofs.lemmas.List.Sums.{sum_by-cons, sum_by_more}
 use Rattle.hw_bytes.specs.Lists.{distinct}
 use Rattle.hw_bytes.proofs.Lists.{flat_map-push}
@@ -12,12 +11,11 @@ use Rattle.head_column.specs.Histories.{History, no_history}
 use Rattle.head_series.specs.Table.{labels_at}
 use Rattle.head_core.specs.Content.{Content}
 use Rattle.head_core.specs.Heads.{history_at}
-use Rattle.head_ranks.specs.declared.counts.LabelCount.{LabelCount}
 use Rattle.head_ranks.specs.declared.counting.Counter.{Counter}
 use Rattle.head_ranks.specs.Counts.{all_labels, has_label, label_of, samples_of, with_label}
-use Rattle.head_ranks.specs.Counting.{IsCountOf, labels_of, said, series_of, tally_of}
+use Rattle.head_ranks.specs.Counting.{IsCountOf, labels_of, series_of, tally_of}
 use Rattle.head_ranks.specs.Ranks.{AreLabelCounts}
-use Rattle.head_ranks.proofs.Tallies.{tally_push}
+use Rattle.head_ranks.proofs.Tallies.{each_says, tally_push}
 
 -- a series of no labels changes nothing
 begun_tally : (before : List (Labels × History)) (h : History) (l : Label) → tally_of before l ≡ tally_of (before ++ ([], h) ∷ []) l
@@ -71,21 +69,6 @@ zip_count l (s ∷ ss) (x ∷ hs) e =
     sum_by-cons (λ (r : Labels × History). cond (has_label l r.0) 1 0) (s, x) (zip ss hs)
     ∙ ap (λ (n : ℕ). cond (has_label l s) 1 0 + n) (zip_count l ss hs (let k : suc (length hs) ≡ suc (length ss) = e in omega (arith, k)))
     ∙ sym (sum_by-cons (λ (r : Labels). cond (has_label l r) 1 0) s ss)
-
--- what counts say, one by one
-each_says : (series : List (Labels × History)) (counts : List LabelCount) (ds : List Label) → map said counts ≡ map (tally_of series) ds
-    → (map label_of counts ≡ ds) × All (λ k. said k ≡ tally_of series (label_of k)) counts
-each_says series [] [] h = (refl, All-nil (λ (k : LabelCount). said k ≡ tally_of series (label_of k)))
-each_says series [] (d ∷ ds) h = absurd cc
-each_says series (k ∷ counts) [] h = absurd cc
-each_says series (k ∷ counts) (d ∷ ds) h =
-    let first : said k ≡ tally_of series d = cc in
-    let rest : map said counts ≡ map (tally_of series) ds = cc in
-    let of : label_of k ≡ d = ap (λ (t : Label × ℕ × ℕ). t.0) first in
-    let deep = each_says series counts ds rest in (
-      ap (λ (l : Label). l ∷ map label_of counts) of ∙ ap (λ (ls : List Label). d ∷ ls) deep.0,
-      All-cons (λ (m : LabelCount). said m ≡ tally_of series (label_of m)) k counts (first ∙ ap (tally_of series) (sym of)) deep.1,
-    )
 
 pub told : (c : Content) (k : Counter) → length c.histories ≡ length c.table.series → IsCountOf (series_of c) k → AreLabelCounts c k.counts.items
 told c k e is =

@@ -1,11 +1,12 @@
 //! Labels counted one after another.
 
-ghost use Rattle.std.specs.Prelude.{◌≡◌, ◌<◌, ◌++◌, ◌∷◌, [], false, length, List, IfOk, OnOk, sum_by};
+ghost use Rattle.std.specs.Prelude.{◌≡◌, ◌<◌, ◌++◌, ◌∷◌, [], false, length, List, IfOk, IfSome, OnOk, slice_index_or, sum_by};
 ghost use Rattle.wal_record.specs.Labels.{IsLabelSet, Labels, label};
 ghost use Rattle.head_column.specs.Histories.{History};
 ghost use Rattle.head_series.specs.Table.{labels_at};
 ghost use Rattle.head_core.specs.Heads.{history_at};
-ghost use Rattle.head_ranks.specs.Counts.{has_label};
+ghost use Rattle.head_ranks.specs.declared.counts.LabelCount.{LabelCount};
+ghost use Rattle.head_ranks.specs.Counts.{has_label, label_of};
 ghost use Rattle.head_ranks.specs.Counting.{IsCountOf};
 ghost use Rattle.head_ranks.specs.Ranks.{AreLabelCounts};
 
@@ -26,6 +27,8 @@ struct LabelKey<'a> {
 struct Counter<'a> {
     seen: IndexSet<LabelKey<'a>>,
     counts: Vec<LabelCount<'a>>,
+    // For each place in a label set, the index of the count of the label that was last looked up there. A hint: no count depends on it.
+    places: Vec<usize>,
 }
 
 // Written out, so that a function that drops one has a call in its proof, and not a copy of this body.
@@ -34,6 +37,7 @@ impl Drop for Counter<'_> {
         let Counter {
             seen: _seen,
             counts: _counts,
+            places: _places,
         } = self;
     }
 }
@@ -46,15 +50,41 @@ impl<'a> Counter<'a> {
         Counter {
             seen: IndexSet::new(alloc),
             counts: Vec::new(alloc),
+            places: Vec::new(alloc),
         }
     }
 
-    // Counts one more label of the last series, which has this many samples. Returns an error if out of memory, or if there is no such number.
-    fn add_label(&mut self, name: &'a [u8], value: &'a [u8], samples: u64) -> Result<(), AllocError>
+    // Returns the index of the label's count, if the hint for this place gives it. Neighbouring series share most of their labels.
+    fn hinted(&self, place: usize, name: &[u8], value: &[u8]) -> Option<usize>
+        ensures within { IfSome result (λ at. at < length self.now.counts.items) }
+        ensures label { IfSome result (λ at. (d : LabelCount) → label_of (slice_index_or self.now.counts.items at d) ≡ label name.now value.now) }
+    {
+        let at = *self.places.get(place)?;
+        let count = self.counts.get(at)?;
+        if count.value == value && count.name == name {
+            Some(at)
+        } else {
+            None
+        }
+    }
+
+    // Counts one more label of the last series, which has this many samples. The label is at this place of its label set. Returns an error
+    // if out of memory, or if there is no such number.
+    fn add_label(
+        &mut self,
+        place: usize,
+        name: &'a [u8],
+        value: &'a [u8],
+        samples: u64,
+    ) -> Result<(), AllocError>
         ensures { (before : List (Labels × History)) (labels : Labels) (h : History) → samples ≡ length h.samples → has_label (label name.now value.now) labels ≡ false
             → IsCountOf (before ++ (labels, h) ∷ []) self.old → OnOk result (IsCountOf (before ++ (labels ++ label name.now value.now ∷ [], h) ∷ []) self.new) }
     {
+        if let Some(at) = self.hinted(place, name, value) {
+            return self.counts[at].add(samples);
+        }
         let (at, _) = self.seen.insert_full(LabelKey { name, value })?;
+        set_place(&mut self.places, place, at)?;
         if at < self.counts.len() {
             self.counts[at].add(samples)
         } else {
@@ -79,7 +109,7 @@ impl<'a> Counter<'a> {
         let samples = head.sample_count(slot) as u64;
         for i in 0..head.pairs(slot) {
             let (name, value) = head.pair(slot, i);
-            self.add_label(name, value, samples)?;
+            self.add_label(i, name, value, samples)?;
         }
         Ok(())
     }
@@ -91,8 +121,20 @@ impl<'a> Counter<'a> {
         let Counter {
             seen: _seen,
             counts,
+            places: _places,
         } = self;
         counts
+    }
+}
+
+// Sets the hint for a place, or adds one if there is none for it yet. Returns an error if out of memory.
+fn set_place(places: &mut Vec<usize>, place: usize, at: usize) -> Result<(), AllocError> {
+    if place < places.len() {
+        places[place] = at;
+        Ok(())
+    } else {
+        places.push(at)?;
+        Ok(())
     }
 }
 
