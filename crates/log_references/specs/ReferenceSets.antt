@@ -1,4 +1,4 @@
--- How a set of references is kept: words of private functions, which no public contract cites.
+-- How a set of references is kept.
 use Rattle.std.specs.Prelude.{ℕ, ◌/◌, ◌%◌, ◌^◌, ◌==◌, Bool, List, not, nat_eq, nat_lt, bit_and, slice_index, if◌then◌else◌}
 use Rattle.std.specs.List.{list_any}
 
