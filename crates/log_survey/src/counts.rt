@@ -56,8 +56,8 @@ pub(crate) fn count_skipped(
     Ok(())
 }
 
-// Returns the least and the greatest of these times and one more.
-fn with_time(ends: Option<(i64, i64)>, time: i64) -> (i64, i64)
+/// Returns the least and the greatest of these times, in milliseconds, and one more.
+pub fn with_time(ends: Option<(i64, i64)>, time: i64) -> (i64, i64)
     ensures { (times : List ℤ) → AreEnds times ends → AreEnds (times ++ time ∷ []) (Some result) }
 {
     match ends {

@@ -10,6 +10,6 @@ mod counts;
 mod records;
 mod surveying;
 
-pub use counts::{KindCount, SkippedCount};
+pub use counts::{KindCount, SkippedCount, with_time};
 pub use records::Survey;
 pub use surveying::survey;

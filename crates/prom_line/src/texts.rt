@@ -96,7 +96,8 @@ Exit status:
   4  out of memory, or a thread could not start";
 
 pub(crate) const CUT: &str = "\
-Writes the folder OUT/U, and nothing else. The log stays as it is. A crash leaves no half block.
+Writes the folder OUT/U, and nothing else. The log stays as it is. A crash leaves no half block:
+what was not finished stays as OUT/U.tmp, and you may remove it.
 
 Example:
   prom_head cut wal --hour 472222 --ulid 01ARZ3NDEKTSV4RRFFQ69G5FAV --out blocks
@@ -106,7 +107,7 @@ Exit status:
   1  the log is damaged: nothing was written
   2  the command line is wrong
   3  a file cannot be read or written, or the hour cannot be cut
-  4  out of memory, or a thread could not start: nothing was written";
+  4  out of memory, or a thread could not start";
 
 pub(crate) const BLOCK: &str = "\
 Writes nothing.
@@ -125,7 +126,8 @@ pub(crate) const APPEND: &str = "\
 Writes a new segment into DIR, one past the last. A row is a time in milliseconds, a value, and
 labels in the order of their names. A value is a whole number: the 64 bits that the log gets. A
 server takes these bits for a floating point number, and 8 for 4e-323: with --floats values are
-floating point numbers, and 8 is 8. Run it while no server has the log open.
+floating point numbers, and 8 is 8. Run it while no server has the log open. With a status other
+than 0 no row is in the log, unless standard output could not be written, or a file not removed.
 
 Example:
   printf '1700000000000 1 __name__=up job=node\\n' > rows
@@ -135,12 +137,12 @@ Exit status:
   0  the accepted rows are on the device
   1  the log is damaged: nothing was written
   2  the command line is wrong
-  3  a file cannot be read or written, or a line is not a row: nothing was appended
-  4  out of memory, or a thread could not start: nothing was appended";
+  3  a file cannot be read or written, or a line is not a row
+  4  out of memory, or a thread could not start";
 
 pub(crate) const CHECKPOINT: &str = "\
 Writes the folder checkpoint.NUMBER into DIR, and removes nothing. Run it while no server has
-the log open.
+the log open. What was not finished stays as checkpoint.NUMBER.tmp, and you may remove it.
 
 Example:
   prom_head checkpoint wal --min-valid 1700000000000
@@ -150,7 +152,7 @@ Exit status:
   1  the log is damaged: nothing was written
   2  the command line is wrong
   3  a file cannot be read or written, or there is no log
-  4  out of memory: nothing was written";
+  4  out of memory";
 
 pub(crate) const PROGRAM: &str = "\
 DIR is the directory `wal` of a server, under its data directory, or a copy of it. `prom_head

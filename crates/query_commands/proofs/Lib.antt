@@ -1,4 +1,1 @@
-pub mod RunSearch
-pub mod Growing
-pub mod Dumped
 pub mod Requested

@@ -3,8 +3,8 @@ use Rattle.std.proofs.Common.{◌≡◌, ℕ, ℤ, Bool, List, Option, None, Res
 use Rattle.wal_log.specs.declared.reading.Damage.{Damage}
 use Rattle.head_core.specs.Content.{Content}
 use Rattle.prom_store.specs.Views.{View}
-use Rattle.query_commands.specs.declared.selection.Selection.{Selection}
-use Rattle.query_commands.specs.Dumps.{IsDump}
+use Rattle.head_dump.specs.declared.selection.Selection.{Selection}
+use Rattle.head_dump.specs.Dumps.{IsDump}
 use Rattle.prom_commands.specs.Spellings.{SpellsPair}
 use Rattle.query_commands.specs.Requests.{IsDumpIn, IsReplayIn, slots_of}
 

@@ -1,4 +1,2 @@
-pub mod Selections
-pub mod Dumps
 pub mod Requests
 pub mod Shares

@@ -8,8 +8,8 @@ use Rattle.head_core.specs.Replays.{IsReplayed}
 use Rattle.prom_store.specs.Views.{View}
 use Rattle.prom_commands.specs.Directory.{IsLogIn}
 use Rattle.prom_commands.specs.Spellings.{SpellsPair}
-use Rattle.query_commands.specs.declared.selection.Selection.{Selection}
-use Rattle.query_commands.specs.Dumps.{IsDump}
+use Rattle.head_dump.specs.declared.selection.Selection.{Selection}
+use Rattle.head_dump.specs.Dumps.{IsDump}
 
 -- the slots of the series that have a label, or of all series
 abbrev pub slots_of : Content → Option (List ℕ × List ℕ) → List ℕ

@@ -4,13 +4,12 @@ ghost use Rattle.std.specs.Prelude.{◌≡◌, IfOk, false, string_bytes};
 ghost use Rattle.std.specs.Option.{option_map};
 ghost use Rattle.head_core.specs.Heads.{AreSlots};
 ghost use Rattle.prom_store.specs.Views.{view_of};
-ghost use Rattle.query_commands.specs.Dumps.{IsDump};
+ghost use Rattle.head_dump.specs.Dumps.{IsDump};
 ghost use Rattle.query_commands.specs.Requests.{IsDumpIn, slots_of};
 
-use crate::lines::dump_text;
 use crate::replaying::replay_in;
-use crate::selection::Selection;
 use head_core::{Head, Slot};
+use head_dump::{Selection, dump_text};
 use head_replay::Replayed;
 use prom_commands::{Answer, Pair, Progress, pair_of};
 use prom_store::{DumpRequest, Fault, Status, Store};

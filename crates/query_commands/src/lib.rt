@@ -5,11 +5,7 @@ mod analysis;
 mod analyzing;
 mod bars;
 mod dumping;
-mod lines;
 mod replaying;
-mod selection;
 
 pub use analyzing::carry_out_analyze;
 pub use dumping::carry_out_dump;
-pub use lines::dump_text;
-pub use selection::{Selection, shown_samples};

@@ -1,4 +1,2 @@
 pub mod Conditions
 pub mod Told
-pub mod Totals
-pub mod Surveyed

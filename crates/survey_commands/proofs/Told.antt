@@ -3,11 +3,11 @@ use Rattle.std.proofs.Common.{◌≡◌, ℕ, ◌+◌, ◌<◌, ◌≤◌, List,
 use Rattle.std.specs.Prelude.{◌↔◌, ◌∷◌, ◌⊎◌, ◌==◌, Contains, get_or, slice_get}
 use Rattle.std.proofs.lemmas.Option.{slice_get_read}
 use Rattle.std.proofs.lemmas.Bool.{cases_lt}
-use Rattle.survey_commands.specs.declared.files.FileSurvey.{FileSurvey}
-use Rattle.survey_commands.specs.declared.inspection.Inspection.{Inspection}
+use Rattle.log_inspection.specs.declared.files.FileSurvey.{FileSurvey}
+use Rattle.log_inspection.specs.declared.inspection.Inspection.{Inspection}
 use Rattle.survey_commands.specs.declared.remarks.Remark.{Remark}
 use Rattle.prom_store.specs.declared.fault.Status.{Status}
-use Rattle.survey_commands.specs.Inspections.{IsStatusOf}
+use Rattle.survey_commands.specs.Statuses.{IsStatusOf}
 use Rattle.survey_commands.specs.Remarks.{Holds, HoldsBelow, HoldsOfFile}
 use Rattle.survey_commands.specs.Remarking.{AddsTo, file_remark, log_remark, unbound_remark}
 use Rattle.survey_commands.proofs.Conditions.{file_holds, file_told, log_holds, log_told, unbound_holds}

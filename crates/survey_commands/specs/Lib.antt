@@ -1,5 +1,3 @@
-pub mod Files
-pub mod Sums
 pub mod Remarks
 pub mod Remarking
-pub mod Inspections
+pub mod Statuses

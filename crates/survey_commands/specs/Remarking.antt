@@ -6,8 +6,8 @@ use Rattle.wal_page.specs.declared.fault.FaultKind.TheVariants as kind
 use Rattle.wal_log.specs.declared.reading.Damage.{Damage as LogDamage}
 use Rattle.wal_log.specs.Inputs.{following}
 use Rattle.log_references.specs.declared.references.Unbound.{Unbound as ReferencesUnbound}
-use Rattle.survey_commands.specs.declared.files.FileSurvey.{FileSurvey}
-use Rattle.survey_commands.specs.declared.inspection.Inspection.{Inspection}
+use Rattle.log_inspection.specs.declared.files.FileSurvey.{FileSurvey}
+use Rattle.log_inspection.specs.declared.inspection.Inspection.{Inspection}
 use Rattle.survey_commands.specs.declared.remarks.Remark.{Remark}
 use Rattle.survey_commands.specs.declared.remarks.Remark.TheVariants.{Compressed, Damaged, Empty, NoLog, SegmentsMissing, TornEnd, UnboundReferences, Zeros}
 use Rattle.survey_commands.specs.Remarks.{file_of, first_segment}

@@ -4,8 +4,8 @@ use Rattle.std.specs.List.{find}
 use Rattle.std.specs.Option.{option_map}
 use Rattle.wal_page.specs.declared.fault.FaultKind.TheVariants as kind
 use Rattle.wal_log.specs.Inputs.{following}
-use Rattle.survey_commands.specs.declared.files.FileSurvey.{FileSurvey}
-use Rattle.survey_commands.specs.declared.inspection.Inspection.{Inspection}
+use Rattle.log_inspection.specs.declared.files.FileSurvey.{FileSurvey}
+use Rattle.log_inspection.specs.declared.inspection.Inspection.{Inspection}
 use Rattle.survey_commands.specs.declared.remarks.NumberedFile.{NumberedFile}
 use Rattle.survey_commands.specs.declared.remarks.Remark.{Remark}
 use Rattle.survey_commands.specs.declared.remarks.Remark.TheVariants.{Compressed, Damaged, Empty, NoLog, SegmentsMissing, TornEnd, UnboundReferences, Zeros}

@@ -2,13 +2,14 @@
 
 ghost use Rattle.std.specs.Prelude.{◌≡◌, IfOk};
 ghost use Rattle.prom_store.specs.Views.{view_of};
-ghost use Rattle.survey_commands.specs.declared.inspection.Inspection.{Inspection as LogInspection};
-ghost use Rattle.survey_commands.specs.Inspections.{IsCleanIn, IsInspectionIn, IsStatusOf};
+ghost use Rattle.log_inspection.specs.declared.inspection.Inspection.{Inspection as LogInspection};
+ghost use Rattle.log_inspection.specs.Inspections.{IsInspectionIn};
+ghost use Rattle.survey_commands.specs.Statuses.{IsCleanIn, IsStatusOf};
 
-use crate::inspection::{Inspection, inspect_log};
 use crate::json::inspection_document;
 use crate::remarks::{Remark, remarks_on, status_of};
 use crate::report::inspection_text;
+use log_inspection::{Inspection, inspect_log};
 use prom_commands::Answer;
 use prom_store::{Fault, InspectRequest, Status, Store};
 use std::alloc::{AllocError, Global};

@@ -1,10 +1,8 @@
 //! The document that the command prints with `--json`.
 
-use crate::files::FileSurvey;
-use crate::inspection::Inspection;
 use crate::remarks::Remark;
 use crate::report::push_remark;
-use crate::sums::{Sums, sums_of};
+use log_inspection::{FileSurvey, Inspection, Sums, sums_of};
 use log_survey::{KindCount, SkippedCount, Survey};
 use serde_json::{Map, Value, json, put};
 use std::alloc::{AllocError, Global};

@@ -5,8 +5,7 @@ ghost use Rattle.wal_log.specs.Inputs.{following};
 ghost use Rattle.survey_commands.specs.Remarks.{Holds, HoldsBelow, file_of as file_named, first_segment};
 ghost use Rattle.survey_commands.specs.Remarking.{AddsTo, blank_remark, damage_remark, file_remark, log_remark, unbound_remark};
 
-use crate::files::FileSurvey;
-use crate::inspection::Inspection;
+use log_inspection::{FileSurvey, Inspection};
 use log_references::{Unbound, UnboundReference};
 use prom_store::Status;
 use std::alloc::{AllocError, Global};

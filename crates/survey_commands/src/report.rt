@@ -1,10 +1,8 @@
 //! The text that the command prints.
 
-use crate::files::FileSurvey;
-use crate::inspection::Inspection;
 use crate::remarks::{NumberedFile, Remark, file_of};
-use crate::sums::{Sums, skipped_records, sums_of};
 use jiff::Timestamp;
+use log_inspection::{FileSurvey, Inspection, Sums, skipped_records, sums_of};
 use log_references::UnboundReference;
 use log_survey::{KindCount, SkippedCount};
 use std::alloc::{AllocError, Global};

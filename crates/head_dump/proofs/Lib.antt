@@ -1,0 +1,3 @@
+pub mod Dumped
+pub mod Growing
+pub mod RunSearch

@@ -1,0 +1,2 @@
+pub mod Surveyed
+pub mod Totals

@@ -1,0 +1,60 @@
+-- The inspection of the log in a directory, by what is seen of it.
+use Rattle.std.specs.Prelude.{◌≡◌, ◌++◌, [], ℕ, Bool, true, false, List, None, Option, Some, bytes_eq, codes, map}
+use Rattle.std.specs.List.{AllZip, list_any}
+use Rattle.std.specs.Option.{option_map}
+use Rattle.std.specs.Path.{path_join}
+use Rattle.wal_log.specs.declared.input.Segment.{Segment}
+use Rattle.wal_log.specs.Plan.{IsDirPlan, IsPlan, NumberedName}
+use Rattle.log_references.specs.Unbound.{IsUnboundIn}
+use Rattle.prom_store.specs.Views.{View}
+use Rattle.prom_commands.specs.Directory.{IsFileIn}
+use Rattle.log_inspection.specs.declared.inspection.Inspection.{Inspection}
+use Rattle.log_inspection.specs.Files.{IsFileSurvey, Surveyed, records_of}
+
+-- whether the name is `wal`
+abbrev pub is_wal : List ℕ → Bool
+is_wal name = bytes_eq name (codes "wal")
+
+-- the survey of the planned file of a directory
+abbrev pub IsSurveyIn : View → List ℕ → Bool → NumberedName → Surveyed → Type 0
+IsSurveyIn view dir in_checkpoint planned s = (file : Segment) × IsFileIn view dir planned file × IsFileSurvey (record { in_checkpoint = in_checkpoint; segment = file }) s
+
+-- the surveys of the planned files of a directory, in order
+abbrev pub AreSurveysIn : View → List ℕ → Bool → List NumberedName → List Surveyed → Type 0
+AreSurveysIn view dir in_checkpoint plan files = AllZip (IsSurveyIn view dir in_checkpoint) plan files
+
+-- The surveys of the files of a checkpoint, which is the directory.
+pub record AreFolderSurveys (view : View) (dir : List ℕ) (files : List Surveyed) : Type 0 where
+  pub names : List (List ℕ)
+  pub listed : view.names dir names
+  pub plan : List NumberedName
+  pub planned : IsPlan None names plan
+  pub each : AreSurveysIn view dir true plan files
+
+-- the surveys of the files of the planned checkpoint of a directory, if there is one
+abbrev pub AreCheckpointSurveys : View → List ℕ → Option NumberedName → List Surveyed → Type 0
+AreCheckpointSurveys view dir None files = files ≡ []
+AreCheckpointSurveys view dir (Some planned) files = AreFolderSurveys view (path_join dir planned.name) files
+
+-- The surveys of the files of the planned checkpoint, then those of the planned segments.
+pub record ArePlannedSurveys (view : View) (dir : List ℕ) (newest : Option NumberedName) (plan : List NumberedName) (files : List Surveyed) : Type 0 where
+  pub first : List Surveyed
+  pub later : List Surveyed
+  pub all : files ≡ first ++ later
+  pub checkpoint : AreCheckpointSurveys view dir newest first
+  pub segments : AreSurveysIn view dir false plan later
+
+-- The inspection of the log in a directory: the surveys of the files of its newest checkpoint, then of the segments past it, and the
+-- references that are unbound in the records of all these files.
+pub record IsInspectionIn (view : View) (dir : List ℕ) (i : Inspection) : Type 0 where
+  pub names : List (List ℕ)
+  pub listed : view.names dir names
+  pub newest : Option NumberedName
+  pub plan : List NumberedName
+  pub planned : IsDirPlan names newest plan
+  pub checkpoint : i.checkpoint ≡ option_map (λ c. c.number) newest
+  pub surveyed : List Surveyed
+  pub read : ArePlannedSurveys view dir newest plan surveyed
+  pub files : i.files.items ≡ map (λ s. s.figures) surveyed
+  pub unbound : IsUnboundIn (records_of surveyed) i.unbound
+  pub wal : i.has_wal ≡ list_any is_wal names

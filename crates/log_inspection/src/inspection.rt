@@ -1,0 +1,136 @@
+//! The survey of the log in a directory, file by file.
+
+ghost use Rattle.std.specs.Prelude.{◌≡◌, false, true, IfOk, map, string_bytes};
+ghost use Rattle.std.specs.List.{list_any};
+ghost use Rattle.std.specs.Option.{option_map};
+ghost use Rattle.wal_log.specs.Plan.{named as name_of};
+ghost use Rattle.prom_store.specs.Views.{view_of};
+ghost use Rattle.log_inspection.specs.Files.{HasSurveyed, HaveSurveyed};
+ghost use Rattle.log_inspection.specs.Inspections.{AreCheckpointSurveys, AreFolderSurveys, ArePlannedSurveys, AreSurveysIn, IsInspectionIn, IsSurveyIn, is_wal};
+
+use crate::files::{FileSurvey, survey_file};
+use log_references::{References, Unbound};
+use prom_commands::{names_in, plan_checkpoint, plan_log, read_planned_file};
+use prom_store::{Fault, Store, join};
+use std::alloc::Global;
+use wal_log::{DirPlan, Named};
+
+/// What the files of the log in a directory hold.
+#[derive(Debug, Drop)]
+pub struct Inspection {
+    /// The number of the checkpoint, if there is one.
+    pub checkpoint: Option<u64>,
+    /// The files in the order of the log: those of the checkpoint, then the segments.
+    pub files: Vec<FileSurvey>,
+    /// The references of samples that no series entry of these files binds.
+    pub unbound: Unbound,
+    /// Whether the directory has a file or a directory named `wal`.
+    pub has_wal: bool,
+}
+
+// Returns whether one of these names is `wal`.
+fn has_wal(names: &[String]) -> bool
+    ensures { result ≡ list_any (λ name. is_wal (string_bytes name)) names.now }
+{
+    names.iter().any(|name| name.as_str() == "wal")
+}
+
+// Reads and surveys a planned file of a directory.
+fn survey_in<S: Store>(
+    alloc: Global,
+    store: &S,
+    dir: &str,
+    in_checkpoint: bool,
+    named: &Named<'_>,
+    references: &mut References,
+) -> Result<FileSurvey, Fault>
+    ensures { IfOk result (λ f. HasSurveyed (IsSurveyIn (view_of (S.holds store.now)) dir.now in_checkpoint (name_of named.now)) f references.old references.new) }
+{
+    let file = read_planned_file(alloc, store, dir, named)?;
+    survey_file(alloc, in_checkpoint, &file, references)
+}
+
+// Reads and surveys the planned files of a directory, one after another.
+fn survey_files<S: Store>(
+    alloc: Global,
+    store: &S,
+    dir: &str,
+    in_checkpoint: bool,
+    names: &[Named<'_>],
+    references: &mut References,
+) -> Result<Vec<FileSurvey>, Fault>
+    ensures { IfOk result (λ files. HaveSurveyed (AreSurveysIn (view_of (S.holds store.now)) dir.now in_checkpoint (map name_of names.now)) files.items references.old references.new) }
+{
+    let mut files = Vec::new(alloc);
+    for named in names {
+        let file = survey_in(alloc, store, dir, in_checkpoint, named, references)?;
+        files.push(file)?;
+    }
+    Ok(files)
+}
+
+// Reads and surveys the files of a checkpoint, which is the directory.
+fn survey_folder<S: Store>(
+    alloc: Global,
+    store: &S,
+    dir: &str,
+    references: &mut References,
+) -> Result<Vec<FileSurvey>, Fault>
+    ensures { IfOk result (λ files. HaveSurveyed (AreFolderSurveys (view_of (S.holds store.now)) dir.now) files.items references.old references.new) }
+{
+    let names = names_in(alloc, store, dir)?;
+    let plan = plan_checkpoint(alloc, &names)?;
+    survey_files(alloc, store, dir, true, &plan, references)
+}
+
+// Reads and surveys the files of the planned checkpoint, if there is one.
+fn survey_checkpoint<S: Store>(
+    alloc: Global,
+    store: &S,
+    dir: &str,
+    named: Option<Named<'_>>,
+    references: &mut References,
+) -> Result<Vec<FileSurvey>, Fault>
+    ensures { IfOk result (λ files. HaveSurveyed (AreCheckpointSurveys (view_of (S.holds store.now)) dir.now (option_map name_of named.entry)) files.items references.old references.new) }
+{
+    let Some(named) = named else {
+        return Ok(Vec::new(alloc));
+    };
+    let path = join(alloc, dir, named.name)?;
+    survey_folder(alloc, store, &path, references)
+}
+
+// Reads and surveys the files that the plan of a directory names.
+fn survey_planned<S: Store>(
+    alloc: Global,
+    store: &S,
+    dir: &str,
+    plan: &DirPlan<'_>,
+    references: &mut References,
+) -> Result<Vec<FileSurvey>, Fault>
+    ensures { IfOk result (λ files. HaveSurveyed (ArePlannedSurveys (view_of (S.holds store.now)) dir.now (option_map name_of plan.now.checkpoint) (map name_of plan.now.segments)) files.items references.old references.new) }
+{
+    let segments = plan.segments.as_slice();
+    let mut files = survey_checkpoint(alloc, store, dir, plan.checkpoint, references)?;
+    let mut segments = survey_files(alloc, store, dir, false, segments, references)?;
+    files.append(&mut segments)?;
+    Ok(files)
+}
+
+/// Surveys the log in a directory: the files of its newest checkpoint and the segments past it, one after another, each up to its first
+/// damage, and finds the references of samples that no series entry of all these files binds. All names of a directory are checked before
+/// the first of its files is read.
+pub fn inspect_log<S: Store>(alloc: Global, store: &S, dir: &str) -> Result<Inspection, Fault>
+    ensures { IfOk result (IsInspectionIn (view_of (S.holds store.now)) dir.now) }
+{
+    let names = names_in(alloc, store, dir)?;
+    let plan = plan_log(alloc, &names)?;
+    let mut references = References::new(alloc);
+    let files = survey_planned(alloc, store, dir, &plan, &mut references)?;
+    Ok(Inspection {
+        checkpoint: plan.checkpoint.map(|named| named.number),
+        files,
+        unbound: references.unbound(),
+        has_wal: has_wal(&names),
+    })
+}

@@ -1,0 +1,16 @@
+-- The status by what an inspection of the log in a directory found.
+use Rattle.std.specs.Prelude.{◌≡◌, ◌⊎◌, List, ℕ}
+use Rattle.prom_store.specs.declared.fault.Status.{Status}
+use Rattle.prom_store.specs.Views.{View}
+use Rattle.log_inspection.specs.declared.inspection.Inspection.{Inspection}
+use Rattle.log_inspection.specs.Inspections.{IsInspectionIn}
+use Rattle.survey_commands.specs.declared.remarks.Remark.{Remark}
+use Rattle.survey_commands.specs.Remarks.{Holds}
+
+-- a log in the directory was inspected, and no remark holds of it
+abbrev pub IsCleanIn : View → List ℕ → Type 0
+IsCleanIn view dir = (i : Inspection) × IsInspectionIn view dir i × ((r : Remark) → Holds i r → ⊥)
+
+-- the status by an inspection: `Done` if no remark holds of it, and `Damaged` if one does
+abbrev pub IsStatusOf : Inspection → Status → Type 0
+IsStatusOf i status = ((status ≡ Status.Done) × ((r : Remark) → Holds i r → ⊥)) ⊎ ((status ≡ Status.Damaged) × (r : Remark) × Holds i r)
