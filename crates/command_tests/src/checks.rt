@@ -32,6 +32,12 @@ pub fn names<S: Store>(alloc: Global, store: &S, dir: &str) -> Result<String, St
     Ok(text)
 }
 
+/// Returns whether a directory has this name.
+pub fn has_name<S: Store>(store: &S, dir: &str, wanted: &str) -> Result<bool, StoreFault> {
+    let found = store.read_dir(dir)?;
+    Ok(found.iter().any(|name| name.as_str() == wanted))
+}
+
 /// Ends the test unless just these names are in a directory, each behind a space, in the order in which they were made.
 pub fn assert_names<R: Abort + AllocGlobal>(
     rt: &R,

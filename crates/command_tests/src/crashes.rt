@@ -1,6 +1,6 @@
 //! What stands after a crash at each call of `append`, `cut` and `checkpoint`.
 
-use crate::checks::{ULID, names, same};
+use crate::checks::{ULID, assert_names, has_name, same};
 use crate::fragments::*;
 use crate::runs::{APPEND, CHECKPOINT, CUT, Case, carried_out, complaint, shelf_of};
 use crate::shelf::Shelf;
@@ -11,12 +11,13 @@ use prom_commands::Request;
 use prom_line::Asked;
 use prom_store::{Status, Store, StoreFault};
 use std::alloc::{AllocError, Global};
+use std::fmt::Debug;
 use std::process::Abort;
 use std::sync::Wait;
 use std::thread::Threads;
 
 // How much a crash keeps of names, and of bytes, that were not synced.
-const WAYS: [(Kept, Kept); 9] = [
+const WAYS: &[(Kept, Kept)] = &[
     (Kept::Nothing, Kept::Nothing),
     (Kept::Nothing, Kept::FirstHalf),
     (Kept::Nothing, Kept::All),
@@ -39,14 +40,38 @@ fn crashed<R: Threads + Wait + Sync + AllocGlobal>(
 ) -> Result<(Shelf, bool), StoreFault> {
     let mut shelf = shelf_of(rt.alloc(), case)?;
     shelf.stop(call)?;
-    let answer = carried_out(rt, &mut shelf, &NoGate, case.asked);
+    let is_done = carried_out(rt, &mut shelf, &NoGate, case.asked).status == Status::Done;
     shelf.crash(names, bytes)?;
-    Ok((shelf, answer.status == Status::Done))
+    Ok((shelf, is_done))
 }
 
 // The bytes of a file, none where it is not there.
 fn bytes_of(alloc: Global, shelf: &Shelf, path: &str) -> Vec<u8> {
     shelf.read(path).unwrap_or(Vec::new(alloc))
+}
+
+// Ends the test unless a file has these bytes.
+fn assert_bytes<C: Debug + Drop, R: Abort + AllocGlobal>(
+    rt: &R,
+    case: C,
+    shelf: &Shelf,
+    path: &str,
+    wanted: &[u8],
+) {
+    let found = bytes_of(rt.alloc(), shelf, path);
+    same(rt, case, found.as_slice(), wanted);
+}
+
+// Ends the test unless a command prints this.
+fn assert_printed<R: Abort + Threads + Wait + Sync + AllocGlobal>(
+    rt: &R,
+    crash: Crash,
+    shelf: &mut Shelf,
+    asked: Asked<'_>,
+    wanted: &str,
+) {
+    let found = carried_out(rt, shelf, &NoGate, asked);
+    same(rt, crash, found.printed.as_str(), wanted);
 }
 
 // What `replay` prints of a log of one series that has so many records of one sample.
@@ -67,14 +92,15 @@ const REPLAY: Asked<'static> = Asked::OfLog(Request::Replay {
     },
 });
 
-// The segment that was appended is whole, or nothing of it is in the log. It is whole where the run had ended well.
-fn assert_log<R: Abort + Threads + Wait + Sync + AllocGlobal>(
+// Whether the segment that was appended is whole. Ends the test where only a part of it is in the log, and where nothing of it is though the
+// run had ended well.
+fn assert_segment<R: Abort + AllocGlobal>(
     rt: &R,
     crash: Crash,
-) -> Result<(), StoreFault> {
-    let alloc = rt.alloc();
-    let (mut shelf, is_done) = crashed(rt, &APPEND, crash)?;
-    let segment = bytes_of(alloc, &shelf, "log/00000001");
+    shelf: &Shelf,
+    is_done: bool,
+) -> bool {
+    let segment = bytes_of(rt.alloc(), shelf, "log/00000001");
     let is_whole = segment.as_slice() == SAMPLE_1_AT_1030;
     same(
         rt,
@@ -82,21 +108,20 @@ fn assert_log<R: Abort + Threads + Wait + Sync + AllocGlobal>(
         is_whole || (segment.is_empty() && !is_done),
         true,
     );
-    same(
-        rt,
-        crash,
-        bytes_of(alloc, &shelf, "log/00000000").as_slice(),
-        SERIES_1_JOB_API,
-    );
-    same(
-        rt,
-        crash,
-        bytes_of(alloc, &shelf, "rows").as_slice(),
-        b"1030 8 job=api\n".as_slice(),
-    );
-    let wanted = counts(alloc, u64::from(is_whole))?;
-    let found = carried_out(rt, &mut shelf, &NoGate, REPLAY);
-    same(rt, crash, found.printed.as_str(), wanted.as_str());
+    is_whole
+}
+
+// The segment that was appended is whole, or nothing of it is in the log. It is whole where the run had ended well.
+fn assert_log<R: Abort + Threads + Wait + Sync + AllocGlobal>(
+    rt: &R,
+    crash: Crash,
+) -> Result<(), StoreFault> {
+    let (mut shelf, is_done) = crashed(rt, &APPEND, crash)?;
+    let is_whole = assert_segment(rt, crash, &shelf, is_done);
+    assert_bytes(rt, crash, &shelf, "log/00000000", SERIES_1_JOB_API);
+    assert_bytes(rt, crash, &shelf, "rows", b"1030 8 job=api\n");
+    let wanted = counts(rt.alloc(), u64::from(is_whole))?;
+    assert_printed(rt, crash, &mut shelf, REPLAY, &wanted);
     Ok(())
 }
 
@@ -105,7 +130,7 @@ fn assert_log<R: Abort + Threads + Wait + Sync + AllocGlobal>(
 fn crash_at_each_call_of_append(rt: HostRuntime) -> Result<(), StoreFault> {
     for call in 1..12 {
         for kept in WAYS {
-            assert_log(&rt, (call, kept))?;
+            assert_log(&rt, (call, *kept))?;
         }
     }
     Ok(())
@@ -123,15 +148,11 @@ fn assert_block<R: Abort + Threads + Wait + Sync + AllocGlobal>(
     rt: &R,
     crash: Crash,
 ) -> Result<(), StoreFault> {
-    let alloc = rt.alloc();
     let (mut shelf, is_done) = crashed(rt, &CUT, crash)?;
-    let is_there = names(alloc, &shelf, "out")?
-        .split(' ')
-        .any(|name| name == ULID);
+    let is_there = has_name(&shelf, "out", ULID)?;
     same(rt, crash, is_there || !is_done, true);
     if is_there {
-        let found = carried_out(rt, &mut shelf, &NoGate, READ);
-        same(rt, crash, found.printed.as_str(), READ_BACK);
+        assert_printed(rt, crash, &mut shelf, READ, READ_BACK);
     }
     Ok(())
 }
@@ -141,7 +162,7 @@ fn assert_block<R: Abort + Threads + Wait + Sync + AllocGlobal>(
 fn crash_at_each_call_of_cut(rt: HostRuntime) -> Result<(), StoreFault> {
     for call in 1..27 {
         for kept in WAYS {
-            assert_block(&rt, (call, kept))?;
+            assert_block(&rt, (call, *kept))?;
         }
     }
     Ok(())
@@ -170,15 +191,11 @@ fn assert_checkpoint<R: Abort + Threads + Wait + Sync + AllocGlobal>(
     rt: &R,
     crash: Crash,
 ) -> Result<(), StoreFault> {
-    let alloc = rt.alloc();
     let (mut shelf, is_done) = crashed(rt, &CHECKPOINT, crash)?;
-    let is_there = names(alloc, &shelf, "log")?
-        .split(' ')
-        .any(|name| name == "checkpoint.00000001");
+    let is_there = has_name(&shelf, "log", "checkpoint.00000001")?;
     same(rt, crash, is_there || !is_done, true);
-    let wanted = counts_of_three(alloc, if is_there { 0 } else { 2 })?;
-    let found = carried_out(rt, &mut shelf, &NoGate, REPLAY_FROM_3000);
-    same(rt, crash, found.printed.as_str(), wanted.as_str());
+    let wanted = counts_of_three(rt.alloc(), if is_there { 0 } else { 2 })?;
+    assert_printed(rt, crash, &mut shelf, REPLAY_FROM_3000, &wanted);
     Ok(())
 }
 
@@ -187,31 +204,34 @@ fn assert_checkpoint<R: Abort + Threads + Wait + Sync + AllocGlobal>(
 fn crash_at_each_call_of_checkpoint(rt: HostRuntime) -> Result<(), StoreFault> {
     for call in 1..13 {
         for kept in WAYS {
-            assert_checkpoint(&rt, (call, kept))?;
+            assert_checkpoint(&rt, (call, *kept))?;
         }
     }
+    Ok(())
+}
+
+// Appends where another run claims the segment just before this call, and ends the test unless it is refused.
+fn assert_refused<R: Abort + Threads + Wait + Sync + AllocGlobal>(
+    rt: &R,
+    shelf: &mut Shelf,
+    call: u64,
+) -> Result<(), StoreFault> {
+    shelf.arrive(call, "log/00000001", b"of another run")?;
+    let answer = carried_out(rt, shelf, &NoGate, APPEND.asked);
+    let said = complaint(rt.alloc(), &answer)?;
+    same(rt, call, said.as_str(), "cannot write log/00000001");
     Ok(())
 }
 
 // Another run claims the segment once the log is listed: it keeps it.
 #[test]
 fn segment_of_another_run(rt: HostRuntime) -> Result<(), StoreFault> {
-    let alloc = rt.alloc();
     for call in 2..5 {
-        let mut shelf = shelf_of(alloc, &APPEND)?;
-        shelf.arrive(call, "log/00000001", b"of another run")?;
-        let answer = carried_out(&rt, &mut shelf, &NoGate, APPEND.asked);
-        let said = complaint(alloc, &answer)?;
-        same(&rt, call, said.as_str(), "cannot write log/00000001");
+        let mut shelf = shelf_of(rt.alloc(), &APPEND)?;
+        assert_refused(&rt, &mut shelf, call)?;
         same(&rt, call, shelf.calls(), Ok(4));
-        same(
-            &rt,
-            call,
-            names(alloc, &shelf, "log")?.as_str(),
-            " 00000000 00000001",
-        );
-        let found = bytes_of(alloc, &shelf, "log/00000001");
-        same(&rt, call, found.as_slice(), b"of another run".as_slice());
+        assert_names(&rt, &shelf, "log", " 00000000 00000001")?;
+        assert_bytes(&rt, call, &shelf, "log/00000001", b"of another run");
     }
     Ok(())
 }

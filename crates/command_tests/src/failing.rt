@@ -6,14 +6,31 @@ use crate::runs::{
     APPEND, CHECKPOINT, CUT, Case, Left, OPTIONS, OUT_OF_MEMORY, carried_out, complaint,
     replayed_by, shelf_of,
 };
+use crate::shelf::Shelf;
 use block_commands::BlockRequest;
 use head_replay::NoGate;
 use prom_commands::Request;
 use prom_line::Asked;
 use prom_store::{InspectRequest, StoreFault};
+use std::alloc::AllocError;
 use std::process::Abort;
 use std::sync::Wait;
 use std::thread::Threads;
+
+// Carries out what is asked for, and ends the test unless it leaves this.
+fn assert_left<R: Abort + Threads + Wait + Sync + AllocGlobal>(
+    rt: &R,
+    call: u64,
+    shelf: &mut Shelf,
+    asked: Asked<'_>,
+    left: Left,
+) -> Result<(), AllocError> {
+    let answer = carried_out(rt, shelf, &NoGate, asked);
+    let said = complaint(rt.alloc(), &answer)?;
+    let found = (answer.status as u8, answer.printed.as_str(), said.as_str());
+    same(rt, call, found, left);
+    Ok(())
+}
 
 // Carries out what is asked for where a call of the store fails: what it is to leave, and the names that are then in the directory. Gives
 // how many calls there were.
@@ -26,10 +43,7 @@ fn assert_run<R: Abort + Threads + Wait + Sync + AllocGlobal>(
 ) -> Result<u64, StoreFault> {
     let mut shelf = shelf_of(rt.alloc(), case)?;
     shelf.fail(call, fault)?;
-    let answer = carried_out(rt, &mut shelf, &NoGate, asked);
-    let said = complaint(rt.alloc(), &answer)?;
-    let found = (answer.status as u8, answer.printed.as_str(), said.as_str());
-    same(rt, call, found, left);
+    assert_left(rt, call, &mut shelf, asked, left)?;
     let calls = shelf.calls()?;
     // no call fails from here on
     shelf.fail(0, fault)?;
@@ -46,7 +60,7 @@ fn assert_calls<R: Abort + Threads + Wait + Sync + AllocGlobal>(
     calls: u64,
 ) -> Result<(), StoreFault> {
     for options in OPTIONS {
-        let asked = replayed_by(case.asked, options);
+        let asked = replayed_by(case.asked, *options);
         let made = assert_run(rt, case, asked, failure, wanted)?;
         same(rt, failure, made, calls);
     }
@@ -85,21 +99,27 @@ const RECORDS: Case = Case {
     dir: "log/checkpoint.00000004",
 };
 
+const IN_CHECKPOINT: &str = " 00000000";
+
+const READS_OF_LOG: &[(&str, &str)] = &[
+    ("cannot read log", IN_CHECKPOINT),
+    ("cannot read log/checkpoint.00000004", IN_CHECKPOINT),
+    (
+        "cannot read log/checkpoint.00000004/00000000",
+        IN_CHECKPOINT,
+    ),
+    ("cannot read log/00000005", IN_CHECKPOINT),
+    ("cannot read log/00000006", IN_CHECKPOINT),
+    ("cannot read log/00000007", IN_CHECKPOINT),
+];
+
 // Names are looked at first, then files are read in the order of the log, and then the bytes are looked at.
 #[test]
 fn each_read_of_a_log_fails(rt: HostRuntime) -> Result<(), StoreFault> {
-    let names = " 00000000";
-    let calls = [
-        ("cannot read log", names),
-        ("cannot read log/checkpoint.00000004", names),
-        ("cannot read log/checkpoint.00000004/00000000", names),
-        ("cannot read log/00000005", names),
-        ("cannot read log/00000006", names),
-        ("cannot read log/00000007", names),
-    ];
     let listed = "checkpoint 00000000 0 skipped 0\nsegment 00000005 0 skipped 0\n\
         damage segment 00000006 offset 0 kind 3 BadType\n";
-    assert_each(&rt, &RECORDS, &calls, ((1, listed, ""), names))
+    let done = ((1, listed, ""), IN_CHECKPOINT);
+    assert_each(&rt, &RECORDS, READS_OF_LOG, done)
 }
 
 // The same log, file by file.
@@ -124,16 +144,8 @@ note segment 00000007 is damaged at 0: what follows in the file was not read
 // Files are read one after another, also those behind one that is damaged.
 #[test]
 fn each_read_of_an_inspection_fails(rt: HostRuntime) -> Result<(), StoreFault> {
-    let names = " 00000000";
-    let calls = [
-        ("cannot read log", names),
-        ("cannot read log/checkpoint.00000004", names),
-        ("cannot read log/checkpoint.00000004/00000000", names),
-        ("cannot read log/00000005", names),
-        ("cannot read log/00000006", names),
-        ("cannot read log/00000007", names),
-    ];
-    assert_each(&rt, &INSPECT, &calls, ((1, INSPECTED, ""), names))
+    let done = ((1, INSPECTED, ""), IN_CHECKPOINT);
+    assert_each(&rt, &INSPECT, READS_OF_LOG, done)
 }
 
 // None of the parts is what it should be.
@@ -150,19 +162,19 @@ const BLOCK: Case = Case {
     dir: "b/chunks",
 };
 
+const READS_OF_BLOCK: &[(&str, &str)] = &[
+    ("cannot read b/index", " 000001"),
+    ("cannot read b/chunks", " 000001"),
+    ("cannot read b/chunks/000001", " 000001"),
+    ("cannot read b/tombstones", " 000001"),
+    ("cannot read b/meta.json", " 000001"),
+];
+
 // All parts are read before one is judged.
 #[test]
 fn each_read_of_a_block_fails(rt: HostRuntime) -> Result<(), StoreFault> {
-    let names = " 000001";
-    let calls = [
-        ("cannot read b/index", names),
-        ("cannot read b/chunks", names),
-        ("cannot read b/chunks/000001", names),
-        ("cannot read b/tombstones", names),
-        ("cannot read b/meta.json", names),
-    ];
     let bad = (1, "", "bad index BadMagic");
-    assert_each(&rt, &BLOCK, &calls, (bad, names))
+    assert_each(&rt, &BLOCK, READS_OF_BLOCK, (bad, " 000001"))
 }
 
 const NOT_BEGUN: &str = "cannot write out/01ARZ3NDEKTSV4RRFFQ69G5FAV.tmp";
@@ -185,34 +197,35 @@ const THERE: &str = " 01ARZ3NDEKTSV4RRFFQ69G5FAV";
 
 // The log is read; the directory is listed, two are made, each file is made, written and synced, then the two directories are synced, the
 // last one is renamed, and the directory that it is in is synced. The block's folder is whole or not there.
+const CALLS_OF_CUT: &[(&str, &str)] = &[
+    ("cannot read log", ""),
+    ("cannot read log/00000000", ""),
+    ("cannot read log/00000001", ""),
+    (NOT_BEGUN, ""),
+    (NOT_BEGUN, ""),
+    (NO_CHUNKS, BESIDE),
+    (NO_INDEX, BESIDE),
+    (NO_INDEX, BESIDE),
+    (NO_INDEX, BESIDE),
+    (NO_CHUNK, BESIDE),
+    (NO_CHUNK, BESIDE),
+    (NO_CHUNK, BESIDE),
+    (NO_STONES, BESIDE),
+    (NO_STONES, BESIDE),
+    (NO_STONES, BESIDE),
+    (NO_META, BESIDE),
+    (NO_META, BESIDE),
+    (NO_META, BESIDE),
+    (NO_CHUNKS, BESIDE),
+    (NOT_BEGUN, BESIDE),
+    (NO_BLOCK, BESIDE),
+    (NO_BLOCK, THERE),
+];
+
 #[test]
 fn each_call_of_cut_fails(rt: HostRuntime) -> Result<(), StoreFault> {
-    let calls = [
-        ("cannot read log", ""),
-        ("cannot read log/00000000", ""),
-        ("cannot read log/00000001", ""),
-        (NOT_BEGUN, ""),
-        (NOT_BEGUN, ""),
-        (NO_CHUNKS, BESIDE),
-        (NO_INDEX, BESIDE),
-        (NO_INDEX, BESIDE),
-        (NO_INDEX, BESIDE),
-        (NO_CHUNK, BESIDE),
-        (NO_CHUNK, BESIDE),
-        (NO_CHUNK, BESIDE),
-        (NO_STONES, BESIDE),
-        (NO_STONES, BESIDE),
-        (NO_STONES, BESIDE),
-        (NO_META, BESIDE),
-        (NO_META, BESIDE),
-        (NO_META, BESIDE),
-        (NO_CHUNKS, BESIDE),
-        (NOT_BEGUN, BESIDE),
-        (NO_BLOCK, BESIDE),
-        (NO_BLOCK, THERE),
-    ];
     let done = (0, "samples 3\nseries 2\nchunks 2\n", "");
-    assert_each(&rt, &CUT, &calls, (done, THERE))
+    assert_each(&rt, &CUT, CALLS_OF_CUT, (done, THERE))
 }
 
 const APPENDED: Left = (0, "accepted\nsegment 00000001\n", "");
@@ -222,7 +235,7 @@ const NOT_WRITTEN: Left = (3, "", "cannot write log/00000001");
 // The log is listed, its segment and the rows are read, the segment is claimed, what a killed run may have left is taken away, the file
 // beside the segment is made, written and synced, it takes the segment's place, and the directory is synced. Where one of the last five
 // fails, both files are taken away by two calls more.
-const CALLS_OF_APPEND: [(u64, Left, Left, u64); 11] = [
+const CALLS_OF_APPEND: &[(u64, Left, Left, u64)] = &[
     (1, (3, "", "cannot read log"), OUT_OF_MEMORY, 1),
     (2, (3, "", "cannot read log/00000000"), OUT_OF_MEMORY, 2),
     (3, (3, "", "cannot read rows"), OUT_OF_MEMORY, 3),
@@ -237,17 +250,26 @@ const CALLS_OF_APPEND: [(u64, Left, Left, u64); 11] = [
     (11, APPENDED, APPENDED, 10),
 ];
 
+// Ends the test unless to append leaves this where a call fails, and the segment is there just where it was appended.
+fn assert_append<R: Abort + Threads + Wait + Sync + AllocGlobal>(
+    rt: &R,
+    failure: (u64, StoreFault),
+    left: Left,
+    calls: u64,
+) -> Result<(), StoreFault> {
+    let names = if left == APPENDED {
+        " 00000000 00000001"
+    } else {
+        " 00000000"
+    };
+    assert_calls(rt, &APPEND, failure, (left, names), calls)
+}
+
 #[test]
 fn each_call_of_append_fails(rt: HostRuntime) -> Result<(), StoreFault> {
     for (call, refused, out, calls) in CALLS_OF_APPEND {
-        for (fault, left) in [(UNSAID, refused), (StoreFault::OutOfMemory, out)] {
-            let names = if left == APPENDED {
-                " 00000000 00000001"
-            } else {
-                " 00000000"
-            };
-            assert_calls(&rt, &APPEND, (call, fault), (left, names), calls)?;
-        }
+        assert_append(&rt, (*call, UNSAID), *refused, *calls)?;
+        assert_append(&rt, (*call, StoreFault::OutOfMemory), *out, *calls)?;
     }
     Ok(())
 }
@@ -266,21 +288,27 @@ const WITH_CHECKPOINT: &str = " 00000000 00000001 checkpoint.00000001";
 
 // The log is read and listed once more; the directory is made, the file is made, written and synced, then the directory is synced and
 // renamed, and the log's directory is synced. No segment is taken away.
+const CALLS_OF_CHECKPOINT: &[(&str, &str)] = &[
+    ("cannot read log", ALONE),
+    ("cannot read log/00000000", ALONE),
+    ("cannot read log/00000001", ALONE),
+    ("cannot read log", ALONE),
+    (NO_DIRECTORY, ALONE),
+    (NO_FILE, WITH_UNFINISHED),
+    (NO_FILE, WITH_UNFINISHED),
+    (NO_FILE, WITH_UNFINISHED),
+    (NO_DIRECTORY, WITH_UNFINISHED),
+    (NO_CHECKPOINT, WITH_UNFINISHED),
+    (NO_CHECKPOINT, WITH_CHECKPOINT),
+];
+
 #[test]
 fn each_call_of_checkpoint_fails(rt: HostRuntime) -> Result<(), StoreFault> {
-    let calls = [
-        ("cannot read log", ALONE),
-        ("cannot read log/00000000", ALONE),
-        ("cannot read log/00000001", ALONE),
-        ("cannot read log", ALONE),
-        (NO_DIRECTORY, ALONE),
-        (NO_FILE, WITH_UNFINISHED),
-        (NO_FILE, WITH_UNFINISHED),
-        (NO_FILE, WITH_UNFINISHED),
-        (NO_DIRECTORY, WITH_UNFINISHED),
-        (NO_CHECKPOINT, WITH_UNFINISHED),
-        (NO_CHECKPOINT, WITH_CHECKPOINT),
-    ];
     let done = (0, "checkpoint 00000001\nrecords 2\n", "");
-    assert_each(&rt, &CHECKPOINT, &calls, (done, WITH_CHECKPOINT))
+    assert_each(
+        &rt,
+        &CHECKPOINT,
+        CALLS_OF_CHECKPOINT,
+        (done, WITH_CHECKPOINT),
+    )
 }

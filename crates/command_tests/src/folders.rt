@@ -78,20 +78,32 @@ fn write_failing(alloc: Global, failure: (u64, StoreFault)) -> Result<(Shelf, St
     Ok((shelf, said))
 }
 
+// The files of a block with two chunk files, and their bytes.
+const FILES: &[(&str, &[u8])] = &[
+    ("index", b"the index"),
+    ("chunks/000001", b"\0"),
+    ("chunks/000002", b"\x01"),
+    ("tombstones", b"the tombstones"),
+    ("meta.json", b"the meta"),
+];
+
+// Ends the test unless the folder of a block with two chunk files is whole.
+fn assert_folder<R: Abort + AllocGlobal>(rt: &R, shelf: &Shelf) -> Result<(), StoreFault> {
+    let folder = format!(in rt.alloc(); "out/{ULID}")?;
+    assert_names(rt, shelf, &folder, " chunks index tombstones meta.json")?;
+    for (name, bytes) in FILES {
+        assert_file(rt, shelf, name, bytes)?;
+    }
+    Ok(())
+}
+
 #[test]
 fn written_and_read(rt: HostRuntime) -> Result<(), StoreFault> {
     let (mut shelf, said) = write_failing(rt.alloc(), (0, UNSAID))?;
     same(&rt, "said", said.as_str(), "");
     same(&rt, "calls", shelf.calls(), Ok(22));
     assert_names(&rt, &shelf, "out", " 01ARZ3NDEKTSV4RRFFQ69G5FAV")?;
-    let folder = format!(in rt.alloc(); "out/{ULID}")?;
-    assert_names(&rt, &shelf, &folder, " chunks index tombstones meta.json")?;
-    assert_file(&rt, &shelf, "index", b"the index")?;
-    assert_file(&rt, &shelf, "chunks/000001", b"\0")?;
-    assert_file(&rt, &shelf, "chunks/000002", b"\x01")?;
-    assert_file(&rt, &shelf, "tombstones", b"the tombstones")?;
-    assert_file(&rt, &shelf, "meta.json", b"the meta")?;
-    Ok(())
+    assert_folder(&rt, &shelf)
 }
 
 // Twelve chunk files, whose names are listed in another order than that of their numbers where they are not filled up with zeros.
@@ -112,7 +124,7 @@ fn many_chunk_files(rt: HostRuntime) -> Result<(), StoreFault> {
 }
 
 // What is said where a call fails, below `out/`.
-const CALLS: [(u64, &str); 22] = [
+const CALLS: &[(u64, &str)] = &[
     (1, "01ARZ3NDEKTSV4RRFFQ69G5FAV.tmp"),
     (2, "01ARZ3NDEKTSV4RRFFQ69G5FAV.tmp"),
     (3, "01ARZ3NDEKTSV4RRFFQ69G5FAV.tmp/chunks"),
@@ -159,8 +171,8 @@ fn assert_write_fails<R: Abort + AllocGlobal>(
 fn each_call_of_writing_fails(rt: HostRuntime) -> Result<(), StoreFault> {
     for (call, path) in CALLS {
         let said = format!(in rt.alloc(); "cannot write out/{path}")?;
-        assert_write_fails(&rt, call, UNSAID, &said)?;
-        assert_write_fails(&rt, call, StoreFault::OutOfMemory, "out of memory")?;
+        assert_write_fails(&rt, *call, UNSAID, &said)?;
+        assert_write_fails(&rt, *call, StoreFault::OutOfMemory, "out of memory")?;
     }
     Ok(())
 }

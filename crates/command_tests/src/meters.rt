@@ -2,8 +2,7 @@
 
 use crate::checks::{ULID, same};
 use crate::fragments::*;
-use crate::runs::{CUT, carried_out, shelf_of};
-use crate::shelf::Shelf;
+use crate::runs::{CUT, Case, carried_out, shelf_of};
 use block_commands::{BlockRequest, CutRequest};
 use head_replay::{Gate, NoGate, Options};
 use live_commands::AppendRequest;
@@ -13,9 +12,12 @@ use prom_line::Asked;
 use prom_store::{AnalyzeRequest, DumpRequest, StoreFault};
 use std::alloc::Global;
 use std::cell::{Cell, RefCell};
-use std::fmt::Display;
+use std::fmt::{Debug, Display};
 use std::io::ErrorKind;
+use std::process::Abort;
+use std::sync::Wait;
 use std::sync::atomic::{AtomicU64, Ordering};
+use std::thread::Threads;
 use std::time::{Clock, Duration};
 use std::{io, mem};
 
@@ -81,7 +83,7 @@ const LOG: Extent = Extent {
 };
 
 // Which round begins, how many milliseconds after the one before, and what is said then.
-const STEPS: [(u64, u64, &str); 7] = [
+const STEPS: &[(u64, u64, &str)] = &[
     (0, 0, ""),
     (1, 99, ""),
     (2, 1, "\r512 of 4001 pages, 16 of 131 MB, 0:00 left\x1b[K"),
@@ -103,33 +105,42 @@ const STEPS: [(u64, u64, &str); 7] = [
     ),
 ];
 
+// Ends the test unless this was said since it was asked last.
+fn assert_said<C: Debug + Drop, R: Abort + AllocGlobal>(
+    rt: &R,
+    case: C,
+    terminal: &Terminal,
+    wanted: &str,
+) {
+    let said = terminal.take(rt.alloc());
+    same(rt, case, said.as_str(), wanted);
+}
+
 // The first worker alone is listened to.
 #[test]
 fn says_how_far_a_replay_is(rt: HostRuntime) {
-    let alloc = rt.alloc();
-    let terminal = Terminal::new(alloc);
+    let terminal = Terminal::new(rt.alloc());
     let meter = Meter::new(&terminal, true);
     meter.begin(&LOG);
     for (turn, waited, want) in STEPS {
-        terminal.wait(waited);
-        meter.pass(1, turn);
-        meter.part(0, turn);
-        meter.pass(0, turn);
-        same(&rt, turn, terminal.take(alloc).as_str(), want);
+        terminal.wait(*waited);
+        meter.pass(1, *turn);
+        meter.part(0, *turn);
+        meter.pass(0, *turn);
+        assert_said(&rt, *turn, &terminal, want);
     }
     meter.end();
-    same(&rt, "the end", terminal.take(alloc).as_str(), "\r\x1b[K");
+    assert_said(&rt, "the end", &terminal, "\r\x1b[K");
     terminal.wait(1_000);
     meter.pass(0, 17);
     meter.end();
-    same(&rt, "no replay", terminal.take(alloc).as_str(), "");
+    assert_said(&rt, "no replay", &terminal, "");
 }
 
 // A short replay says nothing, and so does one whose standard error is no terminal.
 #[test]
 fn says_nothing(rt: HostRuntime) {
-    let alloc = rt.alloc();
-    let terminal = Terminal::new(alloc);
+    let terminal = Terminal::new(rt.alloc());
     for (is_terminal, waited) in [(true, 99), (false, 1_000)] {
         let meter = Meter::new(&terminal, is_terminal);
         meter.begin(&LOG);
@@ -138,7 +149,7 @@ fn says_nothing(rt: HostRuntime) {
         meter.pass(0, 1);
         meter.end();
     }
-    same(&rt, "nothing", terminal.take(alloc).as_str(), "");
+    assert_said(&rt, "nothing", &terminal, "");
 }
 
 // A terminal that takes nothing, with a clock that goes on by a second whenever it is looked at.
@@ -179,10 +190,37 @@ const REPLAY_BY_PAGES: Request<'static> = Request::Replay {
     },
 };
 
+const SAMPLES: Case = Case {
+    standing: &[
+        ("log/", b""),
+        ("log/00000000", SERIES_1_JOB_API),
+        ("log/00000001", SAMPLES_1_AT_1000_1015),
+        ("log/00000002", SAMPLES_1_AT_1000_1015),
+    ],
+    asked: Asked::OfLog(REPLAY_BY_PAGES),
+    dir: "log",
+};
+
+// Ends the test unless a replay that is listened to ends well, and leaves what one leaves that is not.
+fn assert_replay<R: Abort + Threads + Wait + Sync + AllocGlobal, P: Progress + Sync>(
+    rt: &R,
+    progress: &P,
+) -> Result<(), StoreFault> {
+    let shelf = shelf_of(rt.alloc(), &SAMPLES)?;
+    let want = carry_out(rt, rt.alloc(), &shelf, &NoGate, REPLAY_BY_PAGES);
+    let found = carry_out(rt, rt.alloc(), &shelf, progress, REPLAY_BY_PAGES);
+    let (found, want) = (
+        (found.status as u8, found.printed.as_str()),
+        (want.status as u8, want.printed.as_str()),
+    );
+    same(rt, "a replay", found, want);
+    same(rt, "a replay", want.0, 0);
+    Ok(())
+}
+
 // A line that cannot be written is tried again with the next, and a command leaves what it leaves without a terminal.
 #[test]
 fn goes_on_where_nothing_can_be_written(rt: HostRuntime) -> Result<(), StoreFault> {
-    let alloc = rt.alloc();
     let terminal = Closed {
         seconds: AtomicU64::new(0),
         writes: AtomicU64::new(0),
@@ -193,20 +231,7 @@ fn goes_on_where_nothing_can_be_written(rt: HostRuntime) -> Result<(), StoreFaul
     meter.pass(0, 2);
     meter.end();
     same(&rt, "writes", terminal.writes.load(Ordering::SeqCst), 3);
-    let mut shelf = Shelf::new(alloc)?;
-    shelf.put_dir("log")?;
-    shelf.put("log/00000000", SERIES_1_JOB_API)?;
-    shelf.put("log/00000001", SAMPLES_1_AT_1000_1015)?;
-    shelf.put("log/00000002", SAMPLES_1_AT_1000_1015)?;
-    let want = carry_out(&rt, alloc, &shelf, &NoGate, REPLAY_BY_PAGES);
-    let found = carry_out(&rt, alloc, &shelf, &meter, REPLAY_BY_PAGES);
-    let (found, want) = (
-        (found.status as u8, found.printed.as_str()),
-        (want.status as u8, want.printed.as_str()),
-    );
-    same(&rt, "a replay", found, want);
-    same(&rt, "a replay", want.0, 0);
-    Ok(())
+    assert_replay(&rt, &meter)
 }
 
 // What a replay tells: how often it began and ended, and how many workers came by at most.
@@ -243,7 +268,7 @@ const BY_THREE: Options = Options {
 };
 
 // Each command that replays a log.
-const REPLAYS: [Asked<'static>; 7] = [
+const REPLAYS: &[Asked<'static>] = &[
     Asked::OfLog(Request::Replay {
         dir: "log",
         options: BY_THREE,
@@ -287,27 +312,36 @@ const REPLAYS: [Asked<'static>; 7] = [
     }),
 ];
 
+// Carries out what is asked for on a log with this segment behind its others, and ends the test unless it is heard.
+fn assert_heard<R: Abort + Threads + Wait + Sync + AllocGlobal>(
+    rt: &R,
+    asked: Asked<'static>,
+    last: &[u8],
+) -> Result<(), StoreFault> {
+    let mut shelf = shelf_of(rt.alloc(), &CUT)?;
+    shelf.put("rows", b"1030 8 job=api\n")?;
+    shelf.put("log/00000002", last)?;
+    let told = Told {
+        begun: AtomicU64::new(0),
+        ended: AtomicU64::new(0),
+        workers: AtomicU64::new(0),
+    };
+    carried_out(rt, &mut shelf, &told, asked);
+    let found = (
+        told.begun.load(Ordering::SeqCst),
+        told.ended.load(Ordering::SeqCst),
+        told.workers.load(Ordering::SeqCst),
+    );
+    same(rt, asked, found, (1, 1, 3));
+    Ok(())
+}
+
 // Each begins one replay and ends it, by as many workers as it was asked for, also where the log is damaged.
 #[test]
 fn each_command_is_heard(rt: HostRuntime) -> Result<(), StoreFault> {
     for asked in REPLAYS {
-        for second in [SAMPLES_OF_THREE_SERIES, OF_BAD_TYPE] {
-            let mut shelf = shelf_of(rt.alloc(), &CUT)?;
-            shelf.put("rows", b"1030 8 job=api\n")?;
-            shelf.put("log/00000002", second)?;
-            let told = Told {
-                begun: AtomicU64::new(0),
-                ended: AtomicU64::new(0),
-                workers: AtomicU64::new(0),
-            };
-            carried_out(&rt, &mut shelf, &told, asked);
-            let found = (
-                told.begun.load(Ordering::SeqCst),
-                told.ended.load(Ordering::SeqCst),
-                told.workers.load(Ordering::SeqCst),
-            );
-            same(&rt, asked, found, (1, 1, 3));
-        }
+        assert_heard(&rt, *asked, SAMPLES_OF_THREE_SERIES)?;
+        assert_heard(&rt, *asked, OF_BAD_TYPE)?;
     }
     Ok(())
 }

@@ -4,11 +4,14 @@ ghost use Rattle.std.specs.Prelude.{◌≡◌, ◌∷◌, ◌++◌, [], IfOk, On
 
 use crate::checks::same;
 use crate::noted_call::NotedCall;
-use crate::runs::{APPEND, CHECKPOINT, CUT, carried_out, shelf_of};
+use crate::runs::{APPEND, CHECKPOINT, CUT, Case, carried_out, shelf_of};
 use crate::shelf::{Shelf, ShelfWriter};
 use head_replay::NoGate;
 use prom_store::{Store, StoreFault};
 use std::alloc::Global;
+use std::process::Abort;
+use std::sync::Wait;
+use std::thread::Threads;
 
 /// A writer, with the path of its file.
 #[derive(Drop)]
@@ -114,25 +117,29 @@ impl Store for Noted {
     }
 }
 
+// Ends the test unless so many calls of a case change the store, and the last of them syncs the directory.
+fn assert_noted<R: Abort + Threads + Wait + Sync + AllocGlobal>(
+    rt: &R,
+    case: &Case,
+    wanted: usize,
+) -> Result<(), StoreFault> {
+    let shelf = shelf_of(rt.alloc(), case)?;
+    let last = NotedCall::SyncDir(text(rt.alloc(), case.dir)?);
+    let mut noted = Noted {
+        alloc: rt.alloc(),
+        shelf,
+        calls: Vec::new(rt.alloc()),
+    };
+    carried_out(rt, &mut noted, &NoGate, case.asked);
+    same(rt, case.dir, noted.calls.len(), wanted);
+    same(rt, case.dir, noted.calls.last(), Some(&last));
+    Ok(())
+}
+
 // How many calls of each command change the store.
 #[test]
 fn noted_calls(rt: HostRuntime) -> Result<(), StoreFault> {
-    let alloc = rt.alloc();
-    for (case, wanted) in [(APPEND, 7), (CUT, 18), (CHECKPOINT, 7)] {
-        let mut noted = Noted {
-            alloc,
-            shelf: shelf_of(alloc, &case)?,
-            calls: Vec::new(alloc),
-        };
-        carried_out(&rt, &mut noted, &NoGate, case.asked);
-        same(&rt, case.dir, noted.calls.len(), wanted);
-        let dir = String::from_str(alloc, case.dir)?;
-        same(
-            &rt,
-            case.dir,
-            noted.calls.pop(),
-            Some(NotedCall::SyncDir(dir)),
-        );
-    }
-    Ok(())
+    assert_noted(&rt, &APPEND, 7)?;
+    assert_noted(&rt, &CUT, 18)?;
+    assert_noted(&rt, &CHECKPOINT, 7)
 }

@@ -16,7 +16,7 @@ use std::thread::Threads;
 use survey_commands::carry_out_inspect;
 
 /// How logs are replayed. What is found does not depend on it.
-pub const OPTIONS: [Options; 4] = [
+pub const OPTIONS: &[Options] = &[
     Options {
         workers: 1,
         round_pages: 256,

@@ -3,7 +3,7 @@
 use crate::checks::{UNSAID, names, same};
 use crate::shelf::Shelf;
 use prom_store::{Disk, Reason, Store, StoreFault, names_of, read_whole};
-use std::alloc::Global;
+use std::alloc::{AllocError, Global};
 use std::io::{ErrorKind, Read};
 use std::process::Abort;
 use std::test::Fail;
@@ -13,16 +13,16 @@ const REFUSED: Result<&str, StoreFault> = Err(UNSAID);
 
 const DONE: Result<&str, StoreFault> = Ok("");
 
-// A call of a store, its paths below a directory. A new file gets a text.
+// Which call of a store is made. A new file gets a text.
 #[derive(Clone, Copy, Debug)]
 enum Call {
-    ReadDir(&'static str),
-    Read(&'static str),
-    CreateNew(&'static str),
-    CreateDir(&'static str),
-    SyncDir(&'static str),
-    Rename(&'static str, &'static str),
-    RemoveFile(&'static str),
+    ReadDir,
+    Read,
+    CreateNew,
+    CreateDir,
+    SyncDir,
+    Rename,
+    RemoveFile,
 }
 
 // The bytes of a file, as letters.
@@ -41,56 +41,77 @@ fn create<S: Store>(store: &mut S, path: &str) -> Result<(), StoreFault> {
     store.sync_file(&mut writer)
 }
 
-fn below(alloc: Global, dir: &str, name: &str) -> Result<String, StoreFault> {
-    Ok(format!(in alloc; "{dir}{name}")?)
+fn below(alloc: Global, dir: &str, name: &str) -> Result<String, AllocError> {
+    format!(in alloc; "{dir}{name}")
+}
+
+// Makes a call that reads nothing.
+fn change<S: Store>(store: &mut S, call: Call, path: &str, to: &str) -> Result<(), StoreFault> {
+    match call {
+        Call::ReadDir | Call::Read => Err(UNSAID),
+        Call::CreateNew => create(store, path),
+        Call::CreateDir => store.create_dir(path),
+        Call::SyncDir => store.sync_dir(path),
+        Call::Rename => store.rename(path, to),
+        Call::RemoveFile => store.remove_file(path),
+    }
 }
 
 // Makes a call, and gives what it read.
 fn make<S: Store>(
     alloc: Global,
     store: &mut S,
-    dir: &str,
     call: Call,
+    path: &str,
+    to: &str,
 ) -> Result<String, StoreFault> {
     match call {
-        Call::ReadDir(name) => return names(alloc, store, &below(alloc, dir, name)?),
-        Call::Read(name) => return letters(alloc, store, &below(alloc, dir, name)?),
-        Call::CreateNew(name) => create(store, &below(alloc, dir, name)?)?,
-        Call::CreateDir(name) => store.create_dir(&below(alloc, dir, name)?)?,
-        Call::SyncDir(name) => store.sync_dir(&below(alloc, dir, name)?)?,
-        Call::RemoveFile(name) => store.remove_file(&below(alloc, dir, name)?)?,
-        Call::Rename(name, to) => {
-            let to = below(alloc, dir, to)?;
-            store.rename(&below(alloc, dir, name)?, &to)?;
+        Call::ReadDir => names(alloc, store, path),
+        Call::Read => letters(alloc, store, path),
+        _ => {
+            change(store, call, path, to)?;
+            Ok(String::new(alloc))
         }
     }
-    Ok(String::new(alloc))
 }
 
-// Calls one after another, and what each gives.
-const CALLS: [(Call, Result<&str, StoreFault>); 22] = [
-    (Call::ReadDir(""), REFUSED),
-    (Call::SyncDir(""), REFUSED),
-    (Call::CreateDir(""), DONE),
-    (Call::CreateNew("/1/a.tmp"), REFUSED),
-    (Call::CreateDir("/1"), DONE),
-    (Call::CreateDir("/1"), REFUSED),
-    (Call::SyncDir("/1"), DONE),
-    (Call::CreateNew("/1/a.tmp"), DONE),
-    (Call::CreateNew("/1/a.tmp"), REFUSED),
-    (Call::Rename("/1/a.tmp", "/1/a"), DONE),
-    (Call::CreateNew("/1/b"), DONE),
-    (Call::Rename("/1/b", "/1/a"), DONE),
-    (Call::Rename("/1", "/2"), DONE),
-    (Call::SyncDir("/1"), REFUSED),
-    (Call::Read("/1/a"), REFUSED),
-    (Call::Read("/2"), REFUSED),
-    (Call::Read("/2/a"), Ok("bytes")),
-    (Call::ReadDir("/2"), Ok(" a")),
-    (Call::RemoveFile("/2/a"), DONE),
-    (Call::RemoveFile("/2/a"), REFUSED),
-    (Call::ReadDir("/2"), DONE),
-    (Call::ReadDir(""), Ok(" 2")),
+// Makes a call with paths below a directory.
+fn make_below<S: Store>(
+    alloc: Global,
+    store: &mut S,
+    dir: &str,
+    call: Call,
+    (name, to): (&str, &str),
+) -> Result<String, StoreFault> {
+    let path = below(alloc, dir, name)?;
+    let to = below(alloc, dir, to)?;
+    make(alloc, store, call, &path, &to)
+}
+
+// Calls one after another, the names that they are made with, and what each gives. Only a renaming has two names.
+const CALLS: &[(Call, &str, &str, Result<&str, StoreFault>)] = &[
+    (Call::ReadDir, "", "", REFUSED),
+    (Call::SyncDir, "", "", REFUSED),
+    (Call::CreateDir, "", "", DONE),
+    (Call::CreateNew, "/1/a.tmp", "", REFUSED),
+    (Call::CreateDir, "/1", "", DONE),
+    (Call::CreateDir, "/1", "", REFUSED),
+    (Call::SyncDir, "/1", "", DONE),
+    (Call::CreateNew, "/1/a.tmp", "", DONE),
+    (Call::CreateNew, "/1/a.tmp", "", REFUSED),
+    (Call::Rename, "/1/a.tmp", "/1/a", DONE),
+    (Call::CreateNew, "/1/b", "", DONE),
+    (Call::Rename, "/1/b", "/1/a", DONE),
+    (Call::Rename, "/1", "/2", DONE),
+    (Call::SyncDir, "/1", "", REFUSED),
+    (Call::Read, "/1/a", "", REFUSED),
+    (Call::Read, "/2", "", REFUSED),
+    (Call::Read, "/2/a", "", Ok("bytes")),
+    (Call::ReadDir, "/2", "", Ok(" a")),
+    (Call::RemoveFile, "/2/a", "", DONE),
+    (Call::RemoveFile, "/2/a", "", REFUSED),
+    (Call::ReadDir, "/2", "", DONE),
+    (Call::ReadDir, "", "", Ok(" 2")),
 ];
 
 // The fault without its reason.
@@ -102,13 +123,13 @@ fn unsaid(fault: StoreFault) -> StoreFault {
 }
 
 fn assert_calls<R: Abort + AllocGlobal, S: Store>(rt: &R, store: &mut S, dir: &str) {
-    for (call, wanted) in CALLS {
-        let found = make(rt.alloc(), store, dir, call);
+    for (call, name, to, wanted) in CALLS {
+        let found = make_below(rt.alloc(), store, dir, *call, (name, to));
         let told = match &found {
             Ok(text) => Ok(text.as_str()),
             Err(fault) => Err(unsaid(*fault)),
         };
-        same(rt, call, told, wanted);
+        same(rt, (*call, *name, *to), told, *wanted);
     }
 }
 
@@ -137,6 +158,11 @@ fn store_of_real_files(rt: HostRuntime) -> Result<(), Fail> {
     Ok(())
 }
 
+// So many bytes, which repeat after 251.
+fn bytes_of(alloc: Global, length: u32) -> Result<Vec<u8>, AllocError> {
+    (0..length).map(|i| (i % 251) as u8).collect(alloc)
+}
+
 // Makes a file of each length in a directory, and gives the paths and the bytes.
 fn make_files(
     rt: &HostRuntime,
@@ -147,7 +173,7 @@ fn make_files(
     let (mut paths, mut files) = (Vec::new(alloc), Vec::new(alloc));
     for length in lengths {
         let path = format!(in alloc; "{dir}/{length}")?;
-        let bytes: Vec<u8> = (0..*length).map(|i| (i % 251) as u8).collect(alloc)?;
+        let bytes = bytes_of(alloc, *length)?;
         fs::write(rt, &path, &bytes)?;
         paths.push(path)?;
         files.push(bytes)?;
@@ -233,10 +259,10 @@ impl Read for Faulty<'_> {
 }
 
 // How many bytes a reader says that it has. It has four.
-const LENGTHS: [u64; 6] = [0, 1, 3, 4, 5, 100_000];
+const LENGTHS: &[u64] = &[0, 1, 3, 4, 5, 100_000];
 
 // The read to fail, how, and what becomes of reading the four bytes.
-const FAILING: [(u64, ErrorKind, Result<&[u8], StoreFault>); 6] = [
+const FAILING: &[(u64, ErrorKind, Result<&[u8], StoreFault>)] = &[
     (0, ErrorKind::Other, Ok(b"abcd")),
     (1, ErrorKind::Other, Err(UNSAID)),
     (3, ErrorKind::Other, Err(UNSAID)),
@@ -245,22 +271,31 @@ const FAILING: [(u64, ErrorKind, Result<&[u8], StoreFault>); 6] = [
     (3, ErrorKind::Interrupted, Ok(b"abcd")),
 ];
 
+// Reads four bytes where a read fails, and a length is told.
+fn assert_read<R: Abort + AllocGlobal>(
+    rt: &R,
+    (fails_at, kind, wanted): (u64, ErrorKind, Result<&[u8], StoreFault>),
+    length: u64,
+) {
+    let mut reader = Faulty {
+        rest: b"abcd",
+        reads: 0,
+        fails_at,
+        kind,
+    };
+    let found = read_whole(rt.alloc(), &mut reader, length);
+    let told = match &found {
+        Ok(bytes) => Ok(bytes.as_slice()),
+        Err(fault) => Err(*fault),
+    };
+    same(rt, (fails_at, length), told, wanted);
+}
+
 #[test]
 fn failing_read(rt: HostRuntime) {
-    for (fails_at, kind, wanted) in FAILING {
+    for failing in FAILING {
         for length in LENGTHS {
-            let mut reader = Faulty {
-                rest: b"abcd",
-                reads: 0,
-                fails_at,
-                kind,
-            };
-            let found = read_whole(rt.alloc(), &mut reader, length);
-            let told = match &found {
-                Ok(bytes) => Ok(bytes.as_slice()),
-                Err(fault) => Err(*fault),
-            };
-            same(&rt, (fails_at, length), told, wanted);
+            assert_read(&rt, *failing, *length);
         }
     }
 }
@@ -268,12 +303,10 @@ fn failing_read(rt: HostRuntime) {
 // Read by more than one call, whatever length is told.
 #[test]
 fn long_read(rt: HostRuntime) -> Result<(), StoreFault> {
-    let bytes: Vec<u8> = (0..200_000u32)
-        .map(|i| (i % 251) as u8)
-        .collect(rt.alloc())?;
+    let bytes = bytes_of(rt.alloc(), 200_000)?;
     for length in [0, 1, 65_536, 199_999, 200_000, 200_001, 1_000_000] {
         let read = read_whole(rt.alloc(), &mut bytes.as_slice(), length)?;
-        assert!(rt; read.as_slice() == bytes.as_slice(), "at {length}");
+        same(&rt, length, read.as_slice() == bytes.as_slice(), true);
     }
     Ok(())
 }
@@ -288,9 +321,7 @@ fn length_past_memory(rt: HostRuntime) {
 // A reader that gives one byte a call is read to its end, and is refused where its third call fails.
 #[test]
 fn many_reads(rt: HostRuntime) -> Result<(), StoreFault> {
-    let bytes: Vec<u8> = (0..100_000u32)
-        .map(|i| (i % 251) as u8)
-        .collect(rt.alloc())?;
+    let bytes = bytes_of(rt.alloc(), 100_000)?;
     for (fails_at, wanted) in [(0, Ok(100_000)), (3, Err(UNSAID))] {
         let mut reader = Faulty {
             rest: bytes.as_slice(),

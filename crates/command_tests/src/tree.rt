@@ -56,15 +56,19 @@ struct Change {
     added: Option<Link>,
 }
 
+// Takes the name away where it is in the directory.
+fn take_away(links: &mut Vec<Link>, parent: usize, name: &str) {
+    links.retain(|link| link.parent != parent || link.name.as_str() != name);
+}
+
 // Carries out a change on the names of all directories.
 fn apply(alloc: Global, links: &mut Vec<Link>, change: &Change) -> Result<(), AllocError> {
     if let Some(gone) = &change.gone {
-        links.retain(|link| link.parent != change.parent || link.name.as_str() != gone.as_str());
+        take_away(links, change.parent, gone);
     }
     if let Some(added) = &change.added {
         let name = String::from_str(alloc, &added.name)?;
-        links.retain(|link| link.parent != added.parent
-            || link.name.as_str() != added.name.as_str());
+        take_away(links, added.parent, &added.name);
         links.push(Link {
             parent: added.parent,
             name,

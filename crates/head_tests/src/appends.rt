@@ -5,7 +5,8 @@ use crate::device::Device;
 use crate::live_views::views;
 use crate::opening::{Entry, head_of};
 use crate::rows::{Row, prepared};
-use head_live::{AppendFault, Live, PrepareFault, Verdict};
+use crate::{or_memory, same};
+use head_live::{AppendFault, Live, PrepareFault, Prepared, Verdict};
 use std::alloc::{AllocError, Global};
 use std::process::Abort;
 use wal_log::LogWriter;
@@ -32,7 +33,7 @@ impl Appends {
 
 // An open head that is to take rows.
 pub(crate) fn open(alloc: Global, case: &Appends) -> Result<Live<Device>, AllocError> {
-    let head = head_of(alloc, case.log).map_err(|_| AllocError)?;
+    let head = or_memory(head_of(alloc, case.log))?;
     if head.is_failed() {
         return Err(AllocError);
     }
@@ -44,6 +45,35 @@ pub(crate) fn open(alloc: Global, case: &Appends) -> Result<Live<Device>, AllocE
     Ok(Live::new(alloc, head, log))
 }
 
+/// The letter of a verdict.
+pub(crate) fn letter(verdict: &Verdict) -> char {
+    match verdict {
+        Verdict::Accepted => 'A',
+        Verdict::Stale => 'S',
+        Verdict::Expired => 'E',
+    }
+}
+
+fn push_letters(text: &mut String, verdicts: &[Verdict]) -> Result<(), AllocError> {
+    for verdict in verdicts {
+        text.push(letter(verdict))?;
+    }
+    Ok(())
+}
+
+fn push_told(
+    text: &mut String,
+    live: &mut Live<Device>,
+    rows: &Prepared,
+) -> Result<(), AllocError> {
+    match live.append(rows) {
+        Ok(verdicts) => push_letters(text, &verdicts)?,
+        Err(AppendFault::Memory) => return Err(AllocError),
+        Err(fault) => write!(text, "{fault:?}")?,
+    }
+    write!(text, " {} ", live.done())
+}
+
 // What the rows of a call are told, a letter each, or the fault.
 pub(crate) fn push_call(
     text: &mut String,
@@ -51,25 +81,11 @@ pub(crate) fn push_call(
     live: &mut Live<Device>,
     rows: &[Row],
 ) -> Result<(), AllocError> {
-    let rows = match prepared(alloc, rows) {
-        Ok(rows) => rows,
-        Err(PrepareFault::Memory) => return Err(AllocError),
-        Err(fault) => return write!(text, "{fault:?} "),
-    };
-    match live.append(&rows) {
-        Ok(verdicts) => {
-            for verdict in &verdicts {
-                text.push(match verdict {
-                    Verdict::Accepted => 'A',
-                    Verdict::Stale => 'S',
-                    Verdict::Expired => 'E',
-                })?;
-            }
-        }
-        Err(AppendFault::Memory) => return Err(AllocError),
-        Err(fault) => write!(text, "{fault:?}")?,
+    match prepared(alloc, rows) {
+        Ok(rows) => push_told(text, live, &rows),
+        Err(PrepareFault::Memory) => Err(AllocError),
+        Err(fault) => write!(text, "{fault:?} "),
     }
-    write!(text, " {} ", live.done())
 }
 
 // The bytes that the device took, and what the head shows.
@@ -128,11 +144,6 @@ const LIVE: &[(Appends, &str)] = &[(
         | 1 2 3 0 Some(2) Some(1030) 0; Some(1) job=api 1000:5 1015:6 1030:8 Some(1030)",
 )];
 
-#[test]
-fn live_append(rt: HostRuntime) {
-    check(&rt, LIVE);
-}
-
 const X: &[(&[u8], &[u8])] = &[(b"a", b"x")];
 
 const Y: &[(&[u8], &[u8])] = &[(b"a", b"y")];
@@ -154,11 +165,6 @@ const SPENT: &[(Appends, &str)] = &[(
         | 1 1 1 0 None Some(1000) 1; Some(18446744073709551615) a=x 1000:5 Some(1000)",
 )];
 
-#[test]
-fn references_spent(rt: HostRuntime) {
-    check(&rt, SPENT);
-}
-
 // The series of x has a sample, and no reference any more.
 const REBOUND: &[(Appends, &str)] = &[(
     Appends {
@@ -175,11 +181,6 @@ const REBOUND: &[(Appends, &str)] = &[(
         | 3 2 2 0 Some(3) Some(6000) 1; Some(2) a=x 5000:1 6000:2 Some(6000); Some(1) a=y None",
 )];
 
-#[test]
-fn append_after_rebinding(rt: HostRuntime) {
-    check(&rt, REBOUND);
-}
-
 // Two new series in one call, each with two rows, and a third whose first row is its only one.
 const NEW: &[(Appends, &str)] = &[(
     Appends {
@@ -191,11 +192,6 @@ const NEW: &[(Appends, &str)] = &[(
         01002FDF1170140200000000000000010000000000000005000000000000000000010200000000000000000200020000000000000003 \
         | 1 1 3 0 Some(3) Some(6) 0; Some(1) a=y 5:1 6:3 Some(6); Some(2) a=z 5:2 Some(5)",
 )];
-
-#[test]
-fn two_new_series(rt: HostRuntime) {
-    check(&rt, NEW);
-}
 
 // No rows are nothing, and what a call was refused for the next one is not held to.
 const FULL: &[(Appends, &str)] = &[(
@@ -211,8 +207,10 @@ const FULL: &[(Appends, &str)] = &[(
 )];
 
 #[test]
-fn full_segment(rt: HostRuntime) {
-    check(&rt, FULL);
+fn live_appends(rt: HostRuntime) {
+    for cases in [LIVE, SPENT, REBOUND, NEW, FULL] {
+        check(&rt, cases);
+    }
 }
 
 // The bytes of the three rows.
@@ -247,11 +245,9 @@ fn append_or_stay(rt: &impl Abort, alloc: Global) -> Result<(), AllocError> {
     let mut text = String::new(alloc);
     let _ = push_call(&mut text, alloc, &mut live, MIXED.calls[0]);
     let after = views(alloc, live.head())?;
-    if live.done() == 0 {
-        assert_eq!(rt; before.as_str(), after.as_str());
-    } else {
-        assert_ne!(rt; before.as_str(), after.as_str());
-    }
+    let stays = before.as_str() == after.as_str();
+    let shown = (before.as_str(), after.as_str());
+    same(rt, shown, stays, live.done() == 0);
     Ok(())
 }
 

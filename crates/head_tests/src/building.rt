@@ -2,6 +2,7 @@
 
 ghost use Rattle.std.specs.Prelude.{◌≡◌, false, OnOk};
 
+use crate::or_memory;
 use head_column::{Column, Item, Outcome};
 use head_core::{Counts, Head, HeadFault, Resolver, postings_of};
 use head_deal::{Deal, Joined, join_parts, run_part};
@@ -50,27 +51,26 @@ fn deal_all(
     plan: Plan,
 ) -> Result<Deal<Column>, HeadFault> {
     let columns = new_columns(alloc, series)?;
-    let mut deal = Deal::new(alloc, 0, plan.workers, columns).map_err(|_| HeadFault::Memory)?;
+    let mut deal = or_memory(Deal::new(alloc, 0, plan.workers, columns))?;
     for (slot, item) in items {
         if deal.items() >= 4_294_967_296 || deal.slots() <= slot.index() {
             return Err(HeadFault::Full);
         }
-        deal.deal(slot.number(), item)
-            .map_err(|_| HeadFault::Memory)?;
+        or_memory(deal.deal(slot.number(), item))?;
     }
     Ok(deal)
 }
 
 // Runs the parts of a deal one after another, and joins them.
 fn run_all(alloc: Global, deal: Deal<Column>, plan: Plan) -> Result<Joined<Column>, HeadFault> {
-    let mut parts = deal.into_parts().map_err(|_| HeadFault::Memory)?;
+    let mut parts = or_memory(deal.into_parts())?;
     if plan.falls {
         parts.reverse();
     }
     for part in &mut parts {
         run_part(part)?;
     }
-    join_parts(alloc, parts).map_err(|_| HeadFault::Memory)
+    Ok(or_memory(join_parts(alloc, parts))?)
 }
 
 // These counts, with those of the outcomes beside them.

@@ -2,8 +2,8 @@
 
 use crate::log_lines::{Line, Log, NO_FILES, files_of, input_of};
 use crate::logs::WORKERS;
-use crate::same;
 use crate::views::contents;
+use crate::{or_memory, same};
 use head_core::{Counts, Head, replay_serial_from};
 use head_replay::{NoGate, Options, replay};
 use std::alloc::{AllocError, Global};
@@ -36,10 +36,7 @@ fn input_with(
     first: u64,
     segments: &[&'static [Line]],
 ) -> Result<Input, AllocError> {
-    match Input::new(checkpoint, files_of(alloc, first, segments)?) {
-        Ok(input) => Ok(input),
-        Err(_) => Err(AllocError),
-    }
+    or_memory(Input::new(checkpoint, files_of(alloc, first, segments)?))
 }
 
 // That the checkpoint has the number and the files of the case.
@@ -123,19 +120,39 @@ fn make(alloc: Global, case: &Case, input: &Input) -> Result<Checkpoint, Checkpo
     make_checkpoint_within(alloc, input, case.min_valid, case.pages)
 }
 
-// That the checkpoint is as the case says, is its own checkpoint, and with the segments behind it shows what the whole log shows.
-fn check<R: Abort + Threads + Wait + Sync>(rt: &R, alloc: Global, case: &Case) -> Result<(), Fail> {
-    let made = make(alloc, case, &input_of(alloc, case.log)?)?;
+// The checkpoint of a log, which is as the case says.
+fn made_of(
+    rt: &impl Abort,
+    alloc: Global,
+    case: &Case,
+    input: &Input,
+) -> Result<Checkpoint, CheckpointFault> {
+    let made = make(alloc, case, input)?;
     check_made(rt, alloc, case, &made)?;
-    let alone = input_with(alloc, Some(made), 0, &[])?;
-    let again = make(alloc, case, &alone)?;
-    check_made(rt, alloc, case, &again)?;
-    let first = case.number.saturating_add(1);
-    let short = input_with(alloc, Some(again), first, case.behind)?;
-    let text = check_shown(rt, alloc, case, &short)?;
+    Ok(made)
+}
+
+// That a log shows what the whole log of the case shows.
+fn check_whole<R: Abort + Threads + Wait + Sync>(
+    rt: &R,
+    alloc: Global,
+    case: &Case,
+    short: &Input,
+) -> Result<(), Fail> {
+    let text = check_shown(rt, alloc, case, short)?;
     let wanted = check_shown(rt, alloc, case, &whole(alloc, case)?)?;
     same(rt, case.name, text.as_str(), wanted.as_str());
     Ok(())
+}
+
+// That the checkpoint is as the case says, is its own checkpoint, and with the segments behind it shows what the whole log shows.
+fn check<R: Abort + Threads + Wait + Sync>(rt: &R, alloc: Global, case: &Case) -> Result<(), Fail> {
+    let made = made_of(rt, alloc, case, &input_of(alloc, case.log)?)?;
+    let alone = input_with(alloc, Some(made), 0, &[])?;
+    let again = made_of(rt, alloc, case, &alone)?;
+    let first = case.number.saturating_add(1);
+    let short = input_with(alloc, Some(again), first, case.behind)?;
+    check_whole(rt, alloc, case, &short)
 }
 
 // The checkpoint half of the least valid time: the deletion that straddles it is kept whole.

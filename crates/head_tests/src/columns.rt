@@ -103,11 +103,6 @@ const STALE_SAMPLES: Case = Case {
     ..NOTHING
 };
 
-#[test]
-fn stale_samples(rt: HostRuntime) -> Result<(), AllocError> {
-    check(&rt, rt.alloc(), &[STALE_SAMPLES])
-}
-
 const FIRST_TIME: Case = Case {
     items: &[sample!(i64::MIN, 1)],
     outcomes: &[Outcome::Accepted],
@@ -128,11 +123,6 @@ const BOTH_ENDS: Case = Case {
     ..NOTHING
 };
 
-#[test]
-fn ends_of_time(rt: HostRuntime) -> Result<(), AllocError> {
-    check(&rt, rt.alloc(), &[NOTHING, FIRST_TIME, BOTH_ENDS])
-}
-
 const HIDDEN_RUNS: Case = Case {
     items: &[stone!(5, 9), stone!(10, 12), stone!(20, 19), stone!(5, 5)],
     outcomes: &[
@@ -145,12 +135,7 @@ const HIDDEN_RUNS: Case = Case {
     ..NOTHING
 };
 
-#[test]
-fn hidden_runs(rt: HostRuntime) -> Result<(), AllocError> {
-    check(&rt, rt.alloc(), &[HIDDEN_RUNS])
-}
-
-const RUNS_TO_THE_ENDS: [Case; 3] = [
+const RUNS_TO_THE_ENDS: &[Case] = &[
     Case {
         items: &[stone!(i64::MIN, i64::MAX)],
         outcomes: &[Outcome::Hidden],
@@ -175,12 +160,7 @@ const RUNS_TO_THE_ENDS: [Case; 3] = [
     },
 ];
 
-#[test]
-fn runs_to_the_ends_of_time(rt: HostRuntime) -> Result<(), AllocError> {
-    check(&rt, rt.alloc(), &RUNS_TO_THE_ENDS)
-}
-
-const RUNS_OUT_OF_ORDER: [Case; 3] = [
+const RUNS_OUT_OF_ORDER: &[Case] = &[
     Case {
         items: &[stone!(20, 29), stone!(0, 9)],
         outcomes: &[Outcome::Hidden; 2],
@@ -207,11 +187,6 @@ const RUNS_OUT_OF_ORDER: [Case; 3] = [
     },
 ];
 
-#[test]
-fn runs_out_of_order(rt: HostRuntime) -> Result<(), AllocError> {
-    check(&rt, rt.alloc(), &RUNS_OUT_OF_ORDER)
-}
-
 const SAMPLES_AND_DELETIONS: Case = Case {
     items: &[
         sample!(1, 7),
@@ -232,9 +207,21 @@ const SAMPLES_AND_DELETIONS: Case = Case {
     max_time: Some(2),
 };
 
+const ALONE: &[Case] = &[
+    NOTHING,
+    STALE_SAMPLES,
+    FIRST_TIME,
+    BOTH_ENDS,
+    HIDDEN_RUNS,
+    SAMPLES_AND_DELETIONS,
+];
+
 #[test]
-fn samples_and_deletions_go_apart(rt: HostRuntime) -> Result<(), AllocError> {
-    check(&rt, rt.alloc(), &[SAMPLES_AND_DELETIONS])
+fn columns_and_tallies(rt: HostRuntime) -> Result<(), AllocError> {
+    for cases in [ALONE, RUNS_TO_THE_ENDS, RUNS_OUT_OF_ORDER] {
+        check(&rt, rt.alloc(), cases)?;
+    }
+    Ok(())
 }
 
 #[test]

@@ -1,6 +1,6 @@
 //! Items dealt to workers, for both builders that there are.
 
-use crate::same;
+use crate::{or_memory, same};
 use head_column::{Column, Item, Outcome, Run, Sample, Tally};
 use head_deal::{Builder, Deal, DealFault, JoinFault, Joined, Part, Stepped, join_parts, run_part};
 use std::alloc::{AllocError, Global};
@@ -51,6 +51,32 @@ fn fresh_builders<B: Fresh>(alloc: Global, slots: usize) -> Result<Vec<B>, Alloc
     Ok(builders)
 }
 
+// Deals an item, if there is its slot.
+fn deal_one<B: Fresh>(deal: &mut Deal<B>, slot: u32, item: Item) -> Result<(), AllocError> {
+    if deal.items() >= 4_294_967_296 || deal.slots() <= slot as usize {
+        return Err(AllocError);
+    }
+    or_memory(deal.deal(slot, item))
+}
+
+fn deal_all<B: Fresh>(deal: &mut Deal<B>, items: &[(u32, Item)]) -> Result<(), AllocError> {
+    for (slot, item) in items {
+        deal_one(deal, *slot, *item)?;
+    }
+    Ok(())
+}
+
+// A deal to so many slots.
+fn new_deal<B: Fresh>(
+    alloc: Global,
+    tag: u64,
+    workers: usize,
+    slots: usize,
+) -> Result<Deal<B>, AllocError> {
+    let builders = fresh_builders(alloc, slots)?;
+    or_memory(Deal::new(alloc, tag, workers, builders))
+}
+
 // A deal of these items to three slots, or to more.
 pub(crate) fn dealt<B: Fresh>(
     alloc: Global,
@@ -58,14 +84,8 @@ pub(crate) fn dealt<B: Fresh>(
     workers: usize,
     slots: usize,
 ) -> Result<Deal<B>, AllocError> {
-    let builders = fresh_builders(alloc, slots)?;
-    let mut deal = Deal::new(alloc, tag, workers, builders).map_err(|_| AllocError)?;
-    for (slot, item) in FIVE {
-        if deal.items() >= 4_294_967_296 || deal.slots() <= *slot as usize {
-            return Err(AllocError);
-        }
-        deal.deal(*slot, *item).map_err(|_| AllocError)?;
-    }
+    let mut deal = new_deal(alloc, tag, workers, slots)?;
+    deal_all(&mut deal, FIVE)?;
     Ok(deal)
 }
 
@@ -86,8 +106,16 @@ fn steps<B: Fresh>(
 }
 
 fn joined<B: Fresh>(alloc: Global, deal: Deal<B>) -> Result<Joined<B>, AllocError> {
-    let parts = deal.into_parts().map_err(|_| AllocError)?;
-    join_parts(alloc, parts).map_err(|_| AllocError)
+    let parts = or_memory(deal.into_parts())?;
+    or_memory(join_parts(alloc, parts))
+}
+
+// Runs each part to its end.
+fn run_parts<B: Fresh>(parts: &mut [Part<B>]) -> Result<(), AllocError> {
+    for part in parts {
+        run_part(part)?;
+    }
+    Ok(())
 }
 
 // Two workers, in an order of steps: what each step tells, and what all of them end in.
@@ -149,13 +177,11 @@ fn parts_run<B: Fresh>(
     falls: bool,
 ) -> Result<Vec<Part<B>>, AllocError> {
     let deal: Deal<B> = dealt(alloc, 7, workers, 3)?;
-    let mut parts = deal.into_parts().map_err(|_| AllocError)?;
+    let mut parts = or_memory(deal.into_parts())?;
     if falls {
         parts.reverse();
     }
-    for part in &mut parts {
-        run_part(part)?;
-    }
+    run_parts(&mut parts)?;
     Ok(parts)
 }
 
@@ -166,7 +192,7 @@ fn check_parts<B: Fresh>(
     falls: bool,
 ) -> Result<Vec<B>, AllocError> {
     let parts: Vec<Part<B>> = parts_run(alloc, workers, falls)?;
-    let ended = join_parts(alloc, parts).map_err(|_| AllocError)?;
+    let ended = or_memory(join_parts(alloc, parts))?;
     same(
         rt,
         (workers, falls),
@@ -230,23 +256,30 @@ const GROWING_OUTCOMES: &[Outcome] = &[
     Outcome::Accepted,
 ];
 
+// Deals an item, adds the slots up to its own before that, and has the first worker step after it.
+fn deal_growing<B: Fresh>(
+    alloc: Global,
+    deal: &mut Deal<B>,
+    slot: u32,
+    item: Item,
+) -> Result<(), AllocError> {
+    for _slot in deal.slots()..slot as usize + 1 {
+        or_memory(deal.add(B::fresh(alloc)))?;
+    }
+    deal_one(deal, slot, item)?;
+    steps(alloc, deal, &[0])?;
+    Ok(())
+}
+
 // A deal with so many slots at first. The others are added when an item for them comes, and the first worker steps after each item.
 fn dealt_growing<B: Fresh>(
     alloc: Global,
     workers: usize,
     slots: usize,
 ) -> Result<Deal<B>, AllocError> {
-    let builders = fresh_builders(alloc, slots)?;
-    let mut deal = Deal::new(alloc, 7, workers, builders).map_err(|_| AllocError)?;
+    let mut deal = new_deal(alloc, 7, workers, slots)?;
     for (slot, item) in GROWING {
-        for _slot in deal.slots()..*slot as usize + 1 {
-            deal.add(B::fresh(alloc)).map_err(|_| AllocError)?;
-        }
-        if deal.items() >= 4_294_967_296 || deal.slots() <= *slot as usize {
-            return Err(AllocError);
-        }
-        deal.deal(*slot, *item).map_err(|_| AllocError)?;
-        steps(alloc, &mut deal, &[0])?;
+        deal_growing(alloc, &mut deal, *slot, *item)?;
     }
     Ok(deal)
 }
@@ -258,11 +291,9 @@ fn ended_growing<B: Fresh + Debug>(
     slots: usize,
 ) -> Result<(Vec<Outcome>, String), AllocError> {
     let deal: Deal<B> = dealt_growing(alloc, workers, slots)?;
-    let mut parts = deal.into_parts().map_err(|_| AllocError)?;
-    for part in &mut parts {
-        run_part(part)?;
-    }
-    let ended = join_parts(alloc, parts).map_err(|_| AllocError)?;
+    let mut parts = or_memory(deal.into_parts())?;
+    run_parts(&mut parts)?;
+    let ended = or_memory(join_parts(alloc, parts))?;
     let text = format!(in alloc; "{:?}", ended.builders.as_slice())?;
     Ok((ended.outcomes, text))
 }
@@ -315,35 +346,58 @@ fn counts_of_workers(rt: HostRuntime) -> Result<(), AllocError> {
     check_worker_count(&rt, rt.alloc(), usize::MAX, DealFault::TooManyWorkers)
 }
 
-// Each call once, for two workers. Whatever memory is refused, what comes of it is right or nothing.
-fn deal_or_nothing<B: Fresh>(rt: &impl Abort, alloc: Global) -> Result<(), AllocError> {
-    let mut deal: Deal<B> = dealt(alloc, 1, 2, 3)?;
-    let first = steps(alloc, &mut deal, &[1])?;
+// The first step of the second worker, and one slot more. A builder that memory was refused to is handed back, and is added then.
+fn step_and_add<B: Fresh>(
+    rt: &impl Abort,
+    alloc: Global,
+    deal: &mut Deal<B>,
+) -> Result<(), AllocError> {
+    let first = steps(alloc, deal, &[1])?;
     same(
         rt,
         "a step",
         first.as_slice(),
         &[Stepped::Done(Outcome::Accepted)],
     );
-    // a builder that memory was refused to is handed back, and is added now
     if let Err(refused) = deal.add(B::fresh(alloc)) {
-        deal.add(refused.builder).map_err(|_| AllocError)?;
+        or_memory(deal.add(refused.builder))?;
     }
     same(rt, "slots", deal.slots(), 4);
-    let mut parts = deal.into_parts().map_err(|_| AllocError)?;
-    for part in &mut parts {
-        // what memory was refused to is left, and is done now
+    Ok(())
+}
+
+// Runs each part to its end. What memory was refused to is left, and is done then.
+fn run_again<B: Fresh>(parts: &mut [Part<B>]) -> Result<(), AllocError> {
+    for part in parts {
         if run_part(part).is_err() {
             run_part(part)?;
         }
     }
-    let ended = match join_parts(alloc, parts) {
-        Ok(ended) => ended,
+    Ok(())
+}
+
+// Joins the parts. Those that memory was refused to are handed back, and are joined then.
+fn join_again<B: Fresh>(
+    rt: &impl Abort,
+    alloc: Global,
+    parts: Vec<Part<B>>,
+) -> Result<Joined<B>, AllocError> {
+    match join_parts(alloc, parts) {
+        Ok(ended) => Ok(ended),
         Err(refused) => {
             same(rt, "why", refused.fault, JoinFault::Memory);
-            join_parts(alloc, refused.parts).map_err(|_| AllocError)?
+            or_memory(join_parts(alloc, refused.parts))
         }
-    };
+    }
+}
+
+// Each call once, for two workers. Whatever memory is refused, what comes of it is right or nothing.
+fn deal_or_nothing<B: Fresh>(rt: &impl Abort, alloc: Global) -> Result<(), AllocError> {
+    let mut deal: Deal<B> = dealt(alloc, 1, 2, 3)?;
+    step_and_add(rt, alloc, &mut deal)?;
+    let mut parts = or_memory(deal.into_parts())?;
+    run_again(&mut parts)?;
+    let ended = join_again(rt, alloc, parts)?;
     same(rt, "outcomes", ended.outcomes.as_slice(), FIVE_OUTCOMES);
     same(rt, "builders", ended.builders.len(), 4);
     Ok(())

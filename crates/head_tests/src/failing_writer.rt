@@ -3,13 +3,14 @@
 use crate::appends::{THREE_AND_ONE, first_bytes, open, push_call};
 use crate::device::Device;
 use crate::live_views::views;
+use crate::log_lines::log_of;
+use crate::same;
 use head_core::replay_serial;
 use head_live::Live;
-use hw_bytes::Items;
 use std::alloc::{AllocError, Global};
 use std::process::Abort;
 use std::test::Fail;
-use wal_log::{Damage, Input, LogFault, LogWriter, Place, Segment};
+use wal_log::{Damage, LogFault, LogWriter, Place};
 use wal_page::FaultKind;
 
 // The offset of the second record.
@@ -28,12 +29,7 @@ fn cut(length: usize) -> (u64, Option<u64>) {
 // Replays a segment of these bytes.
 fn check_replay(rt: &impl Abort, alloc: Global, taken: Vec<u8>) -> Result<(), Fail> {
     let (series_records, torn) = cut(taken.len());
-    let mut segments = Vec::new(alloc);
-    segments.push(Segment {
-        number: 0,
-        bytes: Items::from_vec(taken),
-    })?;
-    let input = Input::new(None, segments).map_err(|_| AllocError)?;
+    let input = log_of(alloc, taken)?;
     let replayed = replay_serial(alloc, &input)?;
     let damage = torn.map(|offset| Damage {
         place: Place {
@@ -43,8 +39,9 @@ fn check_replay(rt: &impl Abort, alloc: Global, taken: Vec<u8>) -> Result<(), Fa
         },
         kind: FaultKind::Torn,
     });
-    assert_eq!(rt; replayed.damage, damage);
-    assert_eq!(rt; replayed.head.counts().series_records, series_records);
+    same(rt, "damage", replayed.damage, damage);
+    let found = replayed.head.counts().series_records;
+    same(rt, "series records", found, series_records);
     Ok(())
 }
 
@@ -65,16 +62,39 @@ fn digits(alloc: Global, bytes: &[u8]) -> Result<String, AllocError> {
     Ok(text)
 }
 
-// Looks at what a failed append left: the head, the bytes that the device took, and a writer that goes on failing.
+fn check_digits(
+    rt: &impl Abort,
+    alloc: Global,
+    taken: &[u8],
+    room: usize,
+) -> Result<(), AllocError> {
+    let found = digits(alloc, taken)?;
+    let wanted = first_bytes(alloc, room)?;
+    same(rt, room, found, wanted);
+    Ok(())
+}
+
+// A writer that goes on failing, and the bytes that its device took.
+fn check_log(
+    rt: &impl Abort,
+    alloc: Global,
+    mut log: LogWriter<Device>,
+    room: usize,
+) -> Result<(), Fail> {
+    let refused = refusal(&mut log, Device::new(alloc, usize::MAX));
+    same(rt, room, refused, Some((LogFault::Failed, 0)));
+    let taken = log.into_inner().taken;
+    check_digits(rt, alloc, &taken, room)?;
+    check_replay(rt, alloc, taken)
+}
+
+// Looks at what a failed append left: the head, and the writer.
 fn check_left(rt: &impl Abort, alloc: Global, live: Live<Device>, room: usize) -> Result<(), Fail> {
     let shown = views(alloc, live.head())?;
-    assert_eq!(rt; shown.as_str(), "0 0 0 0 Some(1) None 0");
-    let (_head, mut log) = live.into_inner();
-    let refused = refusal(&mut log, Device::new(alloc, usize::MAX));
-    assert_eq!(rt; refused, Some((LogFault::Failed, 0)));
-    let taken = log.into_inner().taken;
-    assert_eq!(rt; digits(alloc, &taken)?, first_bytes(alloc, room)?);
-    check_replay(rt, alloc, taken)
+    same(rt, room, shown.as_str(), "0 0 0 0 Some(1) None 0");
+    let (head, log) = live.into_inner();
+    drop(head);
+    check_log(rt, alloc, log, room)
 }
 
 #[test]
@@ -86,7 +106,7 @@ fn failing_writer(rt: HostRuntime) -> Result<(), Fail> {
         for rows in case.calls() {
             push_call(&mut text, rt.alloc(), &mut live, rows)?;
         }
-        assert_eq!(&rt; text.as_str(), "Write 0 Failed 0 ", "room for {room}");
+        same(&rt, room, text.as_str(), "Write 0 Failed 0 ");
         check_left(&rt, rt.alloc(), live, room)?;
     }
     Ok(())

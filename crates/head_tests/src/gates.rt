@@ -4,16 +4,18 @@ use crate::damaged::TWO_PAGES_CHANGED;
 use crate::log_lines::{Line, Log, NO_FILES, input_of, seconds_of};
 use crate::logs::{WORKERS, by};
 use crate::same;
-use crate::views::views;
+use crate::views::{serial_views, views};
 use crate::worked::{HIDDEN_RUNS, TWO_PAGES};
-use head_core::replay_serial;
 use head_replay::{Gate, Options, replay, tally};
 use std::alloc::{AllocError, Global};
 use std::process::Abort;
+use std::sync::Wait;
 use std::sync::atomic::{AtomicU64, Ordering};
 use std::test::Fail;
 use std::thread;
+use std::thread::Threads;
 use std::time::{Clock, Duration};
+use wal_log::Input;
 
 // A log of two files.
 const TWO_FILES: Log = Log {
@@ -180,27 +182,46 @@ impl Gate for Counted {
 }
 
 fn check_counted(rt: &impl Abort, gate: &Counted, workers: usize) {
-    assert!(rt;
-        gate.passes.are_once_each(workers),
-        "{workers} workers pass"
-    );
-    assert!(rt;
-        gate.parts.are_once_each(workers),
-        "{workers} workers have parts"
-    );
+    let passes = gate.passes.are_once_each(workers);
+    same(rt, (workers, "passes"), passes, true);
+    let parts = gate.parts.are_once_each(workers);
+    same(rt, (workers, "parts"), parts, true);
+}
+
+// That so many workers come to the gate of a replay once each.
+fn check_replay<R: Abort + Threads + Wait + Sync>(
+    rt: &R,
+    alloc: Global,
+    input: &Input,
+    workers: usize,
+    accepted: u64,
+) -> Result<(), Fail> {
+    let gate = Counted::new(alloc)?;
+    let replayed = replay(rt, alloc, input, &by(workers), &gate)?;
+    check_counted(rt, &gate, workers);
+    same(rt, workers, replayed.head.counts().accepted, accepted);
+    Ok(())
+}
+
+// That so many workers come to the gate of a tally once each.
+fn check_tally<R: Abort + Threads + Wait + Sync>(
+    rt: &R,
+    alloc: Global,
+    input: &Input,
+    workers: usize,
+) -> Result<(), Fail> {
+    let gate = Counted::new(alloc)?;
+    tally(rt, alloc, input, &by(workers), &gate)?;
+    check_counted(rt, &gate, workers);
+    Ok(())
 }
 
 #[test]
 fn gate_is_passed_once(rt: HostRuntime) -> Result<(), Fail> {
-    let alloc = rt.alloc();
-    let input = input_of(alloc, TWO_FILES)?;
+    let input = input_of(rt.alloc(), TWO_FILES)?;
     for workers in WORKERS {
-        let gate = Counted::new(alloc)?;
-        drop(replay(&rt, alloc, &input, &by(workers), &gate)?);
-        check_counted(&rt, &gate, workers);
-        let gate = Counted::new(alloc)?;
-        drop(tally(&rt, alloc, &input, &by(workers), &gate)?);
-        check_counted(&rt, &gate, workers);
+        check_replay(&rt, rt.alloc(), &input, workers, 4)?;
+        check_tally(&rt, rt.alloc(), &input, workers)?;
     }
     Ok(())
 }
@@ -208,13 +229,9 @@ fn gate_is_passed_once(rt: HostRuntime) -> Result<(), Fail> {
 // The workers apply so many items in more than one go.
 #[test]
 fn gate_is_passed_once_by_many_items(rt: HostRuntime) -> Result<(), Fail> {
-    let alloc = rt.alloc();
-    let input = seconds_of(alloc, 132, 2_000)?;
+    let input = seconds_of(rt.alloc(), 132, 2_000)?;
     for workers in [1, 2, 7] {
-        let gate = Counted::new(alloc)?;
-        let replayed = replay(&rt, alloc, &input, &by(workers), &gate)?;
-        check_counted(&rt, &gate, workers);
-        assert_eq!(rt; replayed.head.counts().accepted, 264_000);
+        check_replay(&rt, rt.alloc(), &input, workers, 264_000)?;
     }
     Ok(())
 }
@@ -280,21 +297,32 @@ impl Gate for Noted {
     }
 }
 
+// That workers come to the gate of a replay in rounds of so many pages this often.
+fn check_rounds<R: Abort + Threads + Wait + Sync>(
+    rt: &R,
+    alloc: Global,
+    input: &Input,
+    round_pages: usize,
+    seen: (u64, u64, u64),
+) -> Result<(), Fail> {
+    let options = Options {
+        workers: 2,
+        round_pages,
+        min_valid: i64::MIN,
+    };
+    let gate = Noted::new();
+    let replayed = replay(rt, alloc, input, &options, &gate)?;
+    same(rt, round_pages, replayed.head.counts(), TWO_PAGES.counts);
+    same(rt, (round_pages, "passes"), gate.passes.seen(), seen);
+    same(rt, (round_pages, "parts"), gate.parts.seen(), seen);
+    Ok(())
+}
+
 #[test]
 fn two_pages_take_two_rounds(rt: HostRuntime) -> Result<(), Fail> {
-    let alloc = rt.alloc();
-    let input = input_of(alloc, TWO_PAGES.log)?;
+    let input = input_of(rt.alloc(), TWO_PAGES.log)?;
     for (round_pages, seen) in [(1, (2, 2, 0)), (2, (2, 0, 0)), (usize::MAX, (2, 0, 0))] {
-        let options = Options {
-            workers: 2,
-            round_pages,
-            min_valid: i64::MIN,
-        };
-        let gate = Noted::new();
-        let replayed = replay(&rt, alloc, &input, &options, &gate)?;
-        assert_eq!(rt; replayed.head.counts(), TWO_PAGES.counts);
-        assert_eq!(rt; gate.passes.seen(), seen, "passes of {round_pages} pages");
-        assert_eq!(rt; gate.parts.seen(), seen, "parts of {round_pages} pages");
+        check_rounds(&rt, rt.alloc(), &input, round_pages, seen)?;
     }
     Ok(())
 }
@@ -310,9 +338,9 @@ fn no_round_behind_the_damage(rt: HostRuntime) -> Result<(), Fail> {
     };
     let gate = Noted::new();
     let tallied = tally(&rt, alloc, &input, &options, &gate)?;
-    assert_eq!(rt; tallied.damage, TWO_PAGES_CHANGED.damage);
-    assert_eq!(rt; gate.passes.seen(), (2, 2, 0));
-    assert_eq!(rt; gate.parts.seen(), (2, 2, 0));
+    same(&rt, "damage", tallied.damage, TWO_PAGES_CHANGED.damage);
+    same(&rt, "passes", gate.passes.seen(), (2, 2, 0));
+    same(&rt, "parts", gate.parts.seen(), (2, 2, 0));
     Ok(())
 }
 
@@ -333,20 +361,27 @@ impl<C: Clock> Gate for Late<C> {
     fn part(&self, _worker: usize, _turn: u64) {}
 }
 
+// That a replay shows the same if this worker is late.
+fn check_late<R: Abort + Threads + Wait + Clock + Sync>(
+    rt: &R,
+    alloc: Global,
+    input: &Input,
+    worker: usize,
+    shown: &str,
+) -> Result<(), Fail> {
+    let gate = Late { clock: rt, worker };
+    let replayed = replay(rt, alloc, input, &by(3), &gate)?;
+    let found = views(alloc, &replayed.head)?;
+    same(rt, worker, found.as_str(), shown);
+    Ok(())
+}
+
 #[test]
 fn slow_worker_changes_nothing(rt: HostRuntime) -> Result<(), Fail> {
-    let alloc = rt.alloc();
-    let input = input_of(alloc, TWO_FILES)?;
-    let serial = replay_serial(alloc, &input)?;
-    let shown = views(alloc, &serial.head)?;
+    let input = input_of(rt.alloc(), TWO_FILES)?;
+    let shown = serial_views(rt.alloc(), &input)?;
     for worker in 0..3usize {
-        let gate = Late { clock: &rt, worker };
-        let replayed = replay(&rt, alloc, &input, &by(3), &gate)?;
-        assert_eq!(rt;
-            views(alloc, &replayed.head)?,
-            shown,
-            "worker {worker} is late"
-        );
+        check_late(&rt, rt.alloc(), &input, worker, shown.as_str())?;
     }
     Ok(())
 }

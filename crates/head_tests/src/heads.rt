@@ -155,11 +155,6 @@ const EMPTY_HEAD: Case = Case {
     labels: &[],
 };
 
-#[test]
-fn empty_head(rt: HostRuntime) -> Result<(), HeadFault> {
-    check(&rt, rt.alloc(), &EMPTY_HEAD)
-}
-
 // The reference 3 is bound to a=x and then to a=y, and the reference 7 to a=x; then each gets a sample.
 const REBOUND_REFERENCES: Case = Case {
     lines: &[
@@ -199,11 +194,6 @@ const REBOUND_REFERENCES: Case = Case {
     all: &[0, 1],
     labels: &[],
 };
-
-#[test]
-fn rebound_references(rt: HostRuntime) -> Result<(), HeadFault> {
-    check(&rt, rt.alloc(), &REBOUND_REFERENCES)
-}
 
 // An entry is judged by those before it alone.
 const SAMPLE_BEFORE_ITS_SERIES: Case = Case {
@@ -247,11 +237,6 @@ const SAMPLE_BEFORE_ITS_SERIES: Case = Case {
     labels: &[],
 };
 
-#[test]
-fn sample_before_its_series(rt: HostRuntime) -> Result<(), HeadFault> {
-    check(&rt, rt.alloc(), &SAMPLE_BEFORE_ITS_SERIES)
-}
-
 const ENDS_OF_TIME: Case = Case {
     lines: &[
         Line::Series(1, b"a", b'b'),
@@ -278,11 +263,6 @@ const ENDS_OF_TIME: Case = Case {
     all: &[0],
     labels: &[],
 };
-
-#[test]
-fn ends_of_time(rt: HostRuntime) -> Result<(), HeadFault> {
-    check(&rt, rt.alloc(), &ENDS_OF_TIME)
-}
 
 // Deletions of two series, of which the first has a sample in a hidden run and one in none.
 const HIDDEN_RUNS: Case = Case {
@@ -330,11 +310,6 @@ const HIDDEN_RUNS: Case = Case {
     all: &[0, 1],
     labels: &[],
 };
-
-#[test]
-fn hidden_runs(rt: HostRuntime) -> Result<(), HeadFault> {
-    check(&rt, rt.alloc(), &HIDDEN_RUNS)
-}
 
 const THREE_SERIES: Case = Case {
     lines: &[
@@ -385,7 +360,19 @@ const THREE_SERIES: Case = Case {
     labels: &[(b"job", b"a", &[1]), (b"job", b"z", &[]), (b"", b"", &[])],
 };
 
+const CASES: &[Case] = &[
+    EMPTY_HEAD,
+    REBOUND_REFERENCES,
+    SAMPLE_BEFORE_ITS_SERIES,
+    ENDS_OF_TIME,
+    HIDDEN_RUNS,
+    THREE_SERIES,
+];
+
 #[test]
-fn three_series(rt: HostRuntime) -> Result<(), HeadFault> {
-    check(&rt, rt.alloc(), &THREE_SERIES)
+fn heads_of_small_logs(rt: HostRuntime) -> Result<(), HeadFault> {
+    for case in CASES {
+        check(&rt, rt.alloc(), case)?;
+    }
+    Ok(())
 }

@@ -123,6 +123,23 @@ fn same<C: Debug + Drop, T: PartialEq + Debug + Drop>(
     assert_eq!(rt; found, wanted, "at {case:?}");
 }
 
+// What was made, or a want of memory where it was refused.
+#[cfg(test)]
+fn or_memory<T, E: Drop>(made: Result<T, E>) -> Result<T, AllocError> {
+    match made {
+        Ok(made) => Ok(made),
+        Err(_) => Err(AllocError),
+    }
+}
+
+// A list of one item.
+#[cfg(test)]
+fn one<T: Drop>(alloc: Global, item: T) -> Result<Vec<T>, AllocError> {
+    let mut items = Vec::new(alloc);
+    items.push(item)?;
+    Ok(items)
+}
+
 // The numbers of slots.
 #[cfg(test)]
 fn indices(alloc: Global, slots: &[Slot]) -> Result<Vec<usize>, AllocError> {

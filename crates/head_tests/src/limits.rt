@@ -1,7 +1,9 @@
 //! Lists that are longer than any room of a fixed size.
 
+use crate::log_lines::log_of;
 use crate::logs::{NOTHING, by};
-use crate::same;
+use crate::rows::pair;
+use crate::{one, same};
 use head_column::Chunk;
 use head_core::{Counts, Head, HeadFault, Hour, Resolver, Slot};
 use head_live::{Prepared, RawRow};
@@ -9,7 +11,7 @@ use head_replay::{NoGate, Tallied, replay, tally};
 use std::alloc::{AllocError, Global};
 use std::process::Abort;
 use std::test::Fail;
-use wal_log::{Input, LogWriter, Segment};
+use wal_log::{Input, LogWriter};
 use wal_record::{
     Items, LabelSet, SampleEntry, SeriesEntry, WalRecord, decode, encode_samples, encode_series,
 };
@@ -47,22 +49,37 @@ fn seconds(
     Ok(entries)
 }
 
-// A log of 5,000 series in one record, and of 4,097 and of 70,000 samples of the first one, in a record each.
-fn long_log(alloc: Global) -> Result<Input, AllocError> {
+// The record of the first series.
+fn bound(alloc: Global) -> Result<WalRecord, AllocError> {
+    Ok(WalRecord::Series(Items::from_vec(series(alloc, 1)?)))
+}
+
+// The record of these samples.
+fn samples(alloc: Global, reference: u64, first: u32, count: u32) -> Result<WalRecord, AllocError> {
+    let entries = seconds(alloc, reference, first, count)?;
+    Ok(WalRecord::Samples(Items::from_vec(entries)))
+}
+
+// The bytes of a record of so many samples of the first series, a second apart.
+fn encoded(alloc: Global, first: u32, count: u32) -> Result<Vec<u8>, AllocError> {
+    encode_samples(alloc, &seconds(alloc, 0, first, count)?)
+}
+
+// The bytes of a segment of three records, the first two logged together.
+fn logged(alloc: Global, first: &[u8], second: &[u8], third: &[u8]) -> Result<Vec<u8>, AllocError> {
     let mut writer = LogWriter::new(alloc, Vec::new(alloc), 4_096);
-    let first = encode_series(alloc, &series(alloc, 5_000)?)?;
-    let second = encode_samples(alloc, &seconds(alloc, 0, 0, 4_097)?)?;
-    let third = encode_samples(alloc, &seconds(alloc, 0, 4_097, 70_000)?)?;
-    if writer.log(&first, Some(second.as_slice())).is_err() || writer.log(&third, None).is_err() {
+    if writer.log(first, Some(second)).is_err() || writer.log(third, None).is_err() {
         return Err(AllocError);
     }
-    let bytes = Items::from_vec(writer.into_inner());
-    let mut segments = Vec::new(alloc);
-    segments.push(Segment { number: 0, bytes })?;
-    match Input::new(None, segments) {
-        Ok(input) => Ok(input),
-        Err(_) => Err(AllocError),
-    }
+    Ok(writer.into_inner())
+}
+
+// A log of 5,000 series in one record, and of 4,097 and of 70,000 samples of the first one, in a record each.
+fn long_log(alloc: Global) -> Result<Input, AllocError> {
+    let first = encode_series(alloc, &series(alloc, 5_000)?)?;
+    let second = encoded(alloc, 0, 4_097)?;
+    let third = encoded(alloc, 4_097, 70_000)?;
+    log_of(alloc, logged(alloc, &first, &second, &third)?)
 }
 
 const LONG: Tallied = Tallied {
@@ -92,10 +109,9 @@ fn long_records_are_replayed(rt: HostRuntime) -> Result<(), Fail> {
 }
 
 fn check_resolved(rt: &impl Abort, alloc: Global, resolver: &mut Resolver) -> Result<(), Fail> {
-    let bound = WalRecord::Series(Items::from_vec(series(alloc, 1)?));
-    resolver.resolve(&bound)?;
+    resolver.resolve(&bound(alloc)?)?;
     for count in [4_097, 70_000] {
-        let bytes = encode_samples(alloc, &seconds(alloc, 0, 0, count)?)?;
+        let bytes = encoded(alloc, 0, count)?;
         let record = decode(alloc, &bytes)?;
         let items = resolver.resolve_in(&record, Vec::new(alloc))?;
         same(rt, count, items.len(), count as usize);
@@ -114,15 +130,14 @@ fn long_records_are_decoded_and_resolved(rt: HostRuntime) -> Result<(), Fail> {
 // 200 samples of one series, a record that is skipped, and 300 samples that name no series.
 fn mixed(alloc: Global) -> Result<Vec<WalRecord>, AllocError> {
     let mut records = Vec::new(alloc);
-    records.push(WalRecord::Samples(Items::from_vec(seconds(alloc, 0, 0, 200)?)))?;
+    records.push(samples(alloc, 0, 0, 200)?)?;
     records.push(WalRecord::Other(Some(9)))?;
-    records.push(WalRecord::Samples(Items::from_vec(seconds(alloc, 7, 0, 300)?)))?;
+    records.push(samples(alloc, 7, 0, 300)?)?;
     Ok(records)
 }
 
 fn check_reserved(rt: &impl Abort, alloc: Global, head: &mut Head) -> Result<(), HeadFault> {
-    let bound = WalRecord::Series(Items::from_vec(series(alloc, 1)?));
-    head.apply(&bound)?;
+    head.apply(&bound(alloc)?)?;
     let records = mixed(alloc)?;
     let reserved = head.reserve(&records)?;
     head.apply_reserved(reserved, &records);
@@ -164,27 +179,25 @@ fn counts(alloc: Global, head: &Head) -> Result<Vec<usize>, HeadFault> {
     Ok(chunk_counts(alloc, &chunks)?)
 }
 
-fn check_chunks(rt: &impl Abort, alloc: Global, head: &mut Head) -> Result<(), HeadFault> {
-    let bound = WalRecord::Series(Items::from_vec(series(alloc, 1)?));
-    head.apply(&bound)?;
-    let first = WalRecord::Samples(Items::from_vec(seconds(alloc, 0, 0, 241)?));
-    head.apply(&first)?;
-    same(
-        rt,
-        "241",
-        counts(alloc, head)?.as_slice(),
-        [120, 120, 1].as_slice(),
-    );
-    let second = WalRecord::Samples(Items::from_vec(seconds(alloc, 0, 241, 759)?));
-    head.apply(&second)?;
-    let wanted = [120, 120, 120, 120, 120, 120, 120, 120, 40];
-    same(
-        rt,
-        "1000",
-        counts(alloc, head)?.as_slice(),
-        wanted.as_slice(),
-    );
+// Takes so many samples more, and counts those of each chunk.
+fn check_counts(
+    rt: &impl Abort,
+    alloc: Global,
+    head: &mut Head,
+    first: u32,
+    count: u32,
+    wanted: &[usize],
+) -> Result<(), HeadFault> {
+    head.apply(&samples(alloc, 0, first, count)?)?;
+    same(rt, count, counts(alloc, head)?.as_slice(), wanted);
     Ok(())
+}
+
+fn check_chunks(rt: &impl Abort, alloc: Global, head: &mut Head) -> Result<(), HeadFault> {
+    head.apply(&bound(alloc)?)?;
+    check_counts(rt, alloc, head, 0, 241, &[120, 120, 1])?;
+    let wanted = [120, 120, 120, 120, 120, 120, 120, 120, 40];
+    check_counts(rt, alloc, head, 241, 759, &wanted)
 }
 
 #[test]
@@ -199,10 +212,7 @@ fn an_hour_of_a_thousand_samples(rt: HostRuntime) -> Result<(), HeadFault> {
 fn rows(alloc: Global, count: u32) -> Result<Vec<RawRow>, AllocError> {
     let mut rows = Vec::new(alloc);
     for number in 0..count {
-        let mut pairs = Vec::new(alloc);
-        let name = Vec::from_slice(alloc, b"n")?;
-        let value = Vec::from_slice(alloc, &number.to_be_bytes())?;
-        pairs.push((name, value))?;
+        let pairs = one(alloc, pair(alloc, b"n", &number.to_be_bytes())?)?;
         let (time, value) = (0, 0);
         rows.push(RawRow { pairs, time, value })?;
     }

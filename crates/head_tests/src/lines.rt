@@ -1,5 +1,6 @@
 //! Small logs, a record a line.
 
+use crate::one;
 use head_core::{Head, HeadFault};
 use std::alloc::{AllocError, Global};
 use wal_record::{Items, LabelSet, SampleEntry, SeriesEntry, StoneEntry, WalRecord};
@@ -25,43 +26,29 @@ pub(crate) fn label_set(alloc: Global, name: &[u8], value: u8) -> Result<LabelSe
     }
 }
 
-fn series(alloc: Global, reference: u64, name: &[u8], value: u8) -> Result<WalRecord, AllocError> {
-    let labels = label_set(alloc, name, value)?;
-    let mut entries = Vec::new(alloc);
-    entries.push(SeriesEntry { reference, labels })?;
-    Ok(WalRecord::Series(Items::from_vec(entries)))
-}
-
-fn sample(alloc: Global, reference: u64, time: i64, value: i64) -> Result<WalRecord, AllocError> {
-    let mut entries = Vec::new(alloc);
-    entries.push(SampleEntry {
-        reference,
-        time,
-        value,
-    })?;
-    Ok(WalRecord::Samples(Items::from_vec(entries)))
-}
-
-fn stone(
-    alloc: Global,
-    reference: u64,
-    min_time: i64,
-    max_time: i64,
-) -> Result<WalRecord, AllocError> {
-    let mut entries = Vec::new(alloc);
-    entries.push(StoneEntry {
-        reference,
-        min_time,
-        max_time,
-    })?;
-    Ok(WalRecord::Stones(Items::from_vec(entries)))
-}
-
 fn record_of(alloc: Global, line: Line) -> Result<WalRecord, AllocError> {
     match line {
-        Line::Series(reference, name, value) => series(alloc, reference, name, value),
-        Line::Sample(reference, time, value) => sample(alloc, reference, time, value),
-        Line::Stone(reference, min_time, max_time) => stone(alloc, reference, min_time, max_time),
+        Line::Series(reference, name, value) => {
+            let labels = label_set(alloc, name, value)?;
+            let entries = one(alloc, SeriesEntry { reference, labels })?;
+            Ok(WalRecord::Series(Items::from_vec(entries)))
+        }
+        Line::Sample(reference, time, value) => {
+            let entry = SampleEntry {
+                reference,
+                time,
+                value,
+            };
+            Ok(WalRecord::Samples(Items::from_vec(one(alloc, entry)?)))
+        }
+        Line::Stone(reference, min_time, max_time) => {
+            let entry = StoneEntry {
+                reference,
+                min_time,
+                max_time,
+            };
+            Ok(WalRecord::Stones(Items::from_vec(one(alloc, entry)?)))
+        }
         Line::Skipped => Ok(WalRecord::Other(None)),
     }
 }

@@ -1,7 +1,14 @@
 //! All that a head shows.
 
-use head_core::{Head, Slot};
+use head_core::{Head, Sample, Slot};
 use std::alloc::{AllocError, Global};
+
+fn push_bytes(text: &mut String, bytes: &[u8]) -> Result<(), AllocError> {
+    for byte in bytes {
+        text.push(char::from(*byte))?;
+    }
+    Ok(())
+}
 
 fn push_labels(text: &mut String, head: &Head, slot: Slot) -> Result<(), AllocError> {
     if head.is_failed() || head.series() <= slot.index() {
@@ -9,14 +16,18 @@ fn push_labels(text: &mut String, head: &Head, slot: Slot) -> Result<(), AllocEr
     }
     for place in 0..head.pairs(slot) {
         let (name, value) = head.pair(slot, place);
-        for byte in name {
-            text.push(char::from(*byte))?;
-        }
+        push_bytes(text, name)?;
         text.push('=')?;
-        for byte in value {
-            text.push(char::from(*byte))?;
-        }
+        push_bytes(text, value)?;
         text.push(' ')?;
+    }
+    Ok(())
+}
+
+/// Times and values.
+pub(crate) fn push_samples(text: &mut String, samples: &[Sample]) -> Result<(), AllocError> {
+    for sample in samples {
+        write!(text, "{}:{} ", sample.time, sample.value)?;
     }
     Ok(())
 }
@@ -25,23 +36,15 @@ fn push_series(text: &mut String, head: &Head, slot: Slot) -> Result<(), AllocEr
     if head.is_failed() || head.series() <= slot.index() {
         return Ok(());
     }
-    write!(text, "; {:?}", head.reference(slot))?;
-    text.push(' ')?;
+    write!(text, "; {:?} ", head.reference(slot))?;
     push_labels(text, head, slot)?;
-    for sample in &head.samples(slot)? {
-        write!(text, "{}:{} ", sample.time, sample.value)?;
-    }
-    write!(text, "{:?}", head.last_time(slot))?;
-    Ok(())
+    push_samples(text, &head.samples(slot)?)?;
+    write!(text, "{:?}", head.last_time(slot))
 }
 
-/// How many series records, sample records and accepted samples were counted, the next reference, the greatest time, how many slots
-/// have the value x of the label a, and each series: its reference, labels, samples and greatest time.
-pub fn views(alloc: Global, head: &Head) -> Result<String, AllocError> {
-    let mut text = String::new(alloc);
+fn push_views(text: &mut String, head: &Head) -> Result<(), AllocError> {
     if head.is_failed() {
-        text.push_str("failed")?;
-        return Ok(text);
+        return text.push_str("failed");
     }
     let counts = head.counts();
     write!(
@@ -56,7 +59,15 @@ pub fn views(alloc: Global, head: &Head) -> Result<String, AllocError> {
         head.select(b"a", b"x").len()
     )?;
     for slot in head.all() {
-        push_series(&mut text, head, *slot)?;
+        push_series(text, head, *slot)?;
     }
+    Ok(())
+}
+
+/// How many series records, sample records and accepted samples were counted, the next reference, the greatest time, how many slots
+/// have the value x of the label a, and each series: its reference, labels, samples and greatest time.
+pub fn views(alloc: Global, head: &Head) -> Result<String, AllocError> {
+    let mut text = String::new(alloc);
+    push_views(&mut text, head)?;
     Ok(text)
 }

@@ -1,8 +1,9 @@
 //! Logs, and what they count.
 
 use crate::log_lines::{Log, NO_FILES, input_of};
+use crate::same;
 use crate::views::views;
-use head_core::{Counts, replay_serial};
+use head_core::{Counts, ReplayFault, replay_serial};
 use head_replay::{NoGate, Options, Tallied, replay, tally};
 use std::alloc::Global;
 use std::process::Abort;
@@ -71,27 +72,31 @@ fn check_by<R: Abort + Threads + Wait + Sync>(
     shown: &str,
     options: &Options,
 ) -> Result<(), Fail> {
-    let name = case.name;
+    let at = (case.name, options);
     let replayed = replay(rt, alloc, input, options, &NoGate)?;
-    assert_eq!(rt;
-        replayed.head.counts(),
-        case.counts,
-        "{name} by {options:?}"
-    );
-    assert_eq!(rt; replayed.damage, case.damage, "{name} by {options:?}");
-    assert_eq!(rt;
-        views(alloc, &replayed.head)?.as_str(),
-        shown,
-        "{name} by {options:?}"
-    );
+    same(rt, at, replayed.head.counts(), case.counts);
+    same(rt, at, replayed.damage, case.damage);
+    same(rt, at, views(alloc, &replayed.head)?.as_str(), shown);
     let tallied = tally(rt, alloc, input, options, &NoGate)?;
     let wanted = Tallied {
         counts: case.counts,
         series: case.series,
         damage: case.damage,
     };
-    assert_eq!(rt; tallied, wanted, "tally of {name} by {options:?}");
+    same(rt, at, tallied, wanted);
     Ok(())
+}
+
+// That a replay one by one finds the damage of the case. Returns what its head shows.
+fn check_serial(
+    rt: &impl Abort,
+    alloc: Global,
+    input: &Input,
+    case: &Case,
+) -> Result<String, ReplayFault> {
+    let serial = replay_serial(alloc, input)?;
+    same(rt, (case.name, "one by one"), serial.damage, case.damage);
+    Ok(views(alloc, &serial.head)?)
 }
 
 /// That each of these numbers of workers, in rounds of each number of pages, makes the head and the damage of the serial replay, and counts
@@ -103,9 +108,7 @@ pub(crate) fn check_each<R: Abort + Threads + Wait + Sync>(
     workers: &[usize],
 ) -> Result<(), Fail> {
     let input = input_of(alloc, case.log)?;
-    let serial = replay_serial(alloc, &input)?;
-    assert_eq!(rt; serial.damage, case.damage, "{} one by one", case.name);
-    let shown = views(alloc, &serial.head)?;
+    let shown = check_serial(rt, alloc, &input, case)?;
     for workers in workers {
         for round_pages in ROUND_PAGES {
             let options = Options {

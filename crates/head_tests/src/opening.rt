@@ -1,5 +1,6 @@
 //! Heads to open.
 
+use crate::{one, or_memory};
 use head_core::{Head, HeadFault};
 use hw_bytes::Items;
 use std::alloc::{AllocError, Global};
@@ -26,28 +27,25 @@ fn label_set(alloc: Global, value: &[u8]) -> Result<LabelSet, LabelFault> {
 pub fn record_of(alloc: Global, entry: Entry) -> Result<WalRecord, AllocError> {
     match entry {
         Entry::Series(reference, value) => {
-            let labels = label_set(alloc, value).map_err(|_| AllocError)?;
-            let mut entries = Vec::new(alloc);
-            entries.push(SeriesEntry { reference, labels })?;
+            let labels = or_memory(label_set(alloc, value))?;
+            let entries = one(alloc, SeriesEntry { reference, labels })?;
             Ok(WalRecord::Series(Items::from_vec(entries)))
         }
         Entry::Sample(reference, time, value) => {
-            let mut entries = Vec::new(alloc);
-            entries.push(SampleEntry {
+            let entry = SampleEntry {
                 reference,
                 time,
                 value,
-            })?;
-            Ok(WalRecord::Samples(Items::from_vec(entries)))
+            };
+            Ok(WalRecord::Samples(Items::from_vec(one(alloc, entry)?)))
         }
         Entry::Stone(reference, min_time, max_time) => {
-            let mut entries = Vec::new(alloc);
-            entries.push(StoneEntry {
+            let entry = StoneEntry {
                 reference,
                 min_time,
                 max_time,
-            })?;
-            Ok(WalRecord::Stones(Items::from_vec(entries)))
+            };
+            Ok(WalRecord::Stones(Items::from_vec(one(alloc, entry)?)))
         }
     }
 }

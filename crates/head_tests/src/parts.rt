@@ -4,9 +4,10 @@ use crate::building::{Plan, build};
 use crate::log_lines::{Log, input_of};
 use crate::logs::WORKERS;
 use crate::refused::HIDDEN_AND_REBOUND;
-use crate::views::views;
+use crate::same;
+use crate::views::{serial_views, views};
 use crate::worked::WORKED;
-use head_core::{HeadFault, ReplayFault, replay_serial};
+use head_core::{HeadFault, ReplayFault};
 use std::alloc::{AllocError, Global};
 use std::process::Abort;
 use std::test::Fail;
@@ -26,16 +27,14 @@ pub(crate) fn records_of(alloc: Global, input: &Input) -> Result<Vec<WalRecord>,
 // That a log's head is the same in every view, however its items are dealt.
 fn check_parts(rt: &impl Abort, alloc: Global, log: Log) -> Result<(), Fail> {
     let input = input_of(alloc, log)?;
-    let shown = views(alloc, &replay_serial(alloc, &input)?.head)?;
+    let shown = serial_views(alloc, &input)?;
     let records = records_of(alloc, &input)?;
     for workers in WORKERS {
         for falls in [false, true] {
-            let built = build(alloc, &records, Plan { workers, falls })?;
-            assert_eq!(rt;
-                views(alloc, &built)?,
-                shown,
-                "{workers} workers, falling {falls}"
-            );
+            let plan = Plan { workers, falls };
+            let built = build(alloc, &records, plan)?;
+            let found = views(alloc, &built)?;
+            same(rt, plan, found.as_str(), shown.as_str());
         }
     }
     Ok(())
@@ -51,15 +50,15 @@ fn worked_logs_in_parts(rt: HostRuntime) -> Result<(), Fail> {
 
 // Whatever memory is refused, the head is the same or there is none.
 fn build_or_nothing(rt: &impl Abort, alloc: Global, input: &Input) -> Result<(), ReplayFault> {
-    let shown = views(alloc, &replay_serial(alloc, input)?.head)?;
+    let shown = serial_views(alloc, input)?;
     let records = records_of(alloc, input)?;
     let plan = Plan {
         workers: 2,
         falls: false,
     };
     match build(alloc, &records, plan) {
-        Ok(built) => assert_eq!(rt; views(alloc, &built)?, shown),
-        Err(fault) => assert_eq!(rt; fault, HeadFault::Memory),
+        Ok(built) => same(rt, "views", views(alloc, &built)?, shown),
+        Err(fault) => same(rt, "refused", fault, HeadFault::Memory),
     }
     Ok(())
 }

@@ -170,11 +170,6 @@ const THREE_SERIES: Case = Case {
     shown_by_copy: &THREE,
 };
 
-#[test]
-fn three_series_one_block(rt: HostRuntime) -> Result<(), AllocError> {
-    check(&rt, rt.alloc(), &THREE_SERIES)
-}
-
 const A_COPY: Case = Case {
     entries: &[FIRST, SECOND, THIRD],
     shown: &THREE,
@@ -184,11 +179,6 @@ const A_COPY: Case = Case {
         labels: &[(JOB_A, &[1, 3]), (ZONE_C, &[2, 3])],
     },
 };
-
-#[test]
-fn a_copy_goes_its_own_way(rt: HostRuntime) -> Result<(), AllocError> {
-    check(&rt, rt.alloc(), &A_COPY)
-}
 
 const TWICE: Shown = Shown {
     all: &[4, 7],
@@ -202,9 +192,14 @@ const ONE_LABEL: Case = Case {
     shown_by_copy: &TWICE,
 };
 
+const CASES: &[Case] = &[THREE_SERIES, A_COPY, ONE_LABEL];
+
 #[test]
-fn slots_of_one_label(rt: HostRuntime) -> Result<(), AllocError> {
-    check(&rt, rt.alloc(), &ONE_LABEL)
+fn postings_and_their_copies(rt: HostRuntime) -> Result<(), AllocError> {
+    for case in CASES {
+        check(&rt, rt.alloc(), case)?;
+    }
+    Ok(())
 }
 
 // Where memory was refused, a slot with two labels is in neither list.
@@ -258,27 +253,19 @@ fn check_merged(
     outcome
 }
 
-#[test]
-fn first_merged_with_the_others(rt: HostRuntime) -> Result<(), AllocError> {
-    check_merged(&rt, rt.alloc(), &[FIRST], &[SECOND, THIRD], &THREE)
-}
+// The slots of two postings, and what these show once they are merged: the first before the others, slots that interleave, and one in both.
+const MERGED: &[(&[Entry], &[Entry], &Shown)] = &[
+    (&[FIRST], &[SECOND, THIRD], &THREE),
+    (&[FIRST, THIRD], &[SECOND], &THREE),
+    (&[(4, &[JOB_A]), (7, &[JOB_A])], &[(7, &[JOB_A])], &TWICE),
+];
 
 #[test]
-fn merged_slots_interleave(rt: HostRuntime) -> Result<(), AllocError> {
-    check_merged(&rt, rt.alloc(), &[FIRST, THIRD], &[SECOND], &THREE)
-}
-
-const FOUR_AND_SEVEN: [Entry; 2] = [(4, &[JOB_A]), (7, &[JOB_A])];
-
-#[test]
-fn a_common_slot_stands_once(rt: HostRuntime) -> Result<(), AllocError> {
-    check_merged(
-        &rt,
-        rt.alloc(),
-        &FOUR_AND_SEVEN,
-        &FOUR_AND_SEVEN[1..],
-        &TWICE,
-    )
+fn merged_postings(rt: HostRuntime) -> Result<(), AllocError> {
+    for (entries, others, shown) in MERGED {
+        check_merged(&rt, rt.alloc(), entries, others, shown)?;
+    }
+    Ok(())
 }
 
 // A slot with its labels, for which there is room. It has to be past those that are there.

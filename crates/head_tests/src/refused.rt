@@ -2,10 +2,11 @@
 
 use crate::log_lines::{Line, Log, NO_FILES, input_of};
 use crate::logs::{NOTHING, by};
-use crate::views::views;
-use head_core::{Counts, ReplayFault as SerialFault, replay_serial};
+use crate::same;
+use crate::views::{serial_views, views};
+use head_core::{Counts, ReplayFault as SerialFault};
 use head_replay::{NoGate, ReplayFault, Tallied, replay, tally};
-use std::alloc::Global;
+use std::alloc::{AllocError, Global};
 use std::process::Abort;
 use std::sync::Wait;
 use std::test::Fail;
@@ -57,9 +58,9 @@ fn counts_of_workers(rt: HostRuntime) -> Result<(), Fail> {
         (usize::MAX, Some(ReplayFault::TooManyWorkers)),
     ] {
         let replayed = replay(&rt, alloc, &input, &by(workers), &NoGate).err();
-        assert_eq!(rt; replayed, fault, "replay by {workers}");
+        same(&rt, (workers, "replay"), replayed, fault);
         let tallied = tally(&rt, alloc, &input, &by(workers), &NoGate).err();
-        assert_eq!(rt; tallied, fault, "tally by {workers}");
+        same(&rt, (workers, "tally"), tallied, fault);
     }
     Ok(())
 }
@@ -69,22 +70,37 @@ fn is_want(fault: ReplayFault) -> bool {
     matches!(fault, ReplayFault::Memory | ReplayFault::Workers)
 }
 
+// That a replay shows what is wanted, or wants memory or threads.
+fn check_replay<R: Abort + Threads + Wait + Sync>(
+    rt: &R,
+    alloc: Global,
+    input: &Input,
+    wanted: &str,
+) -> Result<(), AllocError> {
+    match replay(rt, alloc, input, &by(2), &NoGate) {
+        Ok(replayed) => same(rt, "replay", views(alloc, &replayed.head)?.as_str(), wanted),
+        Err(fault) => same(rt, ("replay", fault), is_want(fault), true),
+    }
+    Ok(())
+}
+
+// That a tally counts what is wanted, or wants memory or threads.
+fn check_tally<R: Abort + Threads + Wait + Sync>(rt: &R, alloc: Global, input: &Input) {
+    match tally(rt, alloc, input, &by(2), &NoGate) {
+        Ok(tallied) => same(rt, "tally", tallied, TALLIED),
+        Err(fault) => same(rt, ("tally", fault), is_want(fault), true),
+    }
+}
+
 // That both calls answer rightly, or that they want memory or threads.
 fn check_or_want<R: Abort + Threads + Wait + Sync>(
     rt: &R,
     alloc: Global,
     input: &Input,
 ) -> Result<(), SerialFault> {
-    let serial = replay_serial(alloc, input)?;
-    let wanted = views(alloc, &serial.head)?;
-    match replay(rt, alloc, input, &by(2), &NoGate) {
-        Ok(replayed) => assert_eq!(rt; views(alloc, &replayed.head)?, wanted),
-        Err(fault) => assert!(rt; is_want(fault), "replay: {fault}"),
-    }
-    match tally(rt, alloc, input, &by(2), &NoGate) {
-        Ok(tallied) => assert_eq!(rt; tallied, TALLIED),
-        Err(fault) => assert!(rt; is_want(fault), "tally: {fault}"),
-    }
+    let wanted = serial_views(alloc, input)?;
+    check_replay(rt, alloc, input, wanted.as_str())?;
+    check_tally(rt, alloc, input);
     Ok(())
 }
 

@@ -3,6 +3,7 @@
 use crate::building::resolve_all;
 use crate::log_lines::{Line, Log, NO_FILES, input_of};
 use crate::parts::records_of;
+use crate::same;
 use crate::views::views;
 use head_core::{Head, HeadFault, Resolver};
 use std::alloc::{AllocError, Global};
@@ -28,8 +29,8 @@ const ACCEPTED: u64 = 2;
 // Compares a head that took all records with what they say.
 fn check_whole(rt: &impl Abort, head: &Head) {
     if !head.is_failed() {
-        assert_eq!(rt; head.series(), SERIES);
-        assert_eq!(rt; head.counts().accepted, ACCEPTED);
+        same(rt, "series", head.series(), SERIES);
+        same(rt, "accepted", head.counts().accepted, ACCEPTED);
     }
 }
 
@@ -38,8 +39,9 @@ fn apply_or_fail(rt: &impl Abort, alloc: Global, records: &[WalRecord]) {
     let mut head = Head::new(alloc);
     for log_record in records {
         if let Err(fault) = head.apply(log_record) {
-            assert_eq!(rt; fault, HeadFault::Memory);
-            assert_eq!(rt; head.apply(log_record), Err(HeadFault::Failed));
+            same(rt, "refused", fault, HeadFault::Memory);
+            let again = head.apply(log_record);
+            same(rt, "again", again, Err(HeadFault::Failed));
             return;
         }
     }
@@ -60,8 +62,8 @@ fn reserve_or_stay(
             check_whole(rt, &head);
         }
         Err(fault) => {
-            assert_eq!(rt; fault, HeadFault::Memory);
-            assert_eq!(rt; views(alloc, &head)?, before);
+            same(rt, "refused", fault, HeadFault::Memory);
+            same(rt, "views", views(alloc, &head)?, before);
         }
     }
     Ok(())
@@ -71,8 +73,8 @@ fn reserve_or_stay(
 fn resolve_or_stop(rt: &impl Abort, alloc: Global, records: &[WalRecord]) {
     let mut resolver = Resolver::new(alloc);
     match resolve_all(alloc, &mut resolver, records) {
-        Ok(items) => assert_eq!(rt; items.len(), 2),
-        Err(fault) => assert_eq!(rt; fault, HeadFault::Memory),
+        Ok(items) => same(rt, "items", items.len(), 2),
+        Err(fault) => same(rt, "refused", fault, HeadFault::Memory),
     }
 }
 

@@ -1,6 +1,6 @@
 //! Whole logs, read into heads.
 
-use crate::same;
+use crate::{one, same};
 use head_core::{Head, HeadFault, ReplayFault, Replayed, Run, Slot, replay_serial};
 use std::alloc::{AllocError, Global};
 use std::process::Abort;
@@ -83,9 +83,7 @@ fn files(alloc: Global, number: u64, fragments: &[&[u8]]) -> Result<Vec<Segment>
         bytes.extend_from_slice(fragment)?;
     }
     let bytes = Items::from_vec(bytes);
-    let mut files = Vec::new(alloc);
-    files.push(Segment { number, bytes })?;
-    Ok(files)
+    one(alloc, Segment { number, bytes })
 }
 
 // A log of the checkpoint 4 and the segment 5.
@@ -192,11 +190,6 @@ const SMALL: Case = Case {
     damage: Some((5, 7)),
 };
 
-#[test]
-fn whole_log(rt: HostRuntime) -> Result<(), ReplayFault> {
-    check(&rt, rt.alloc(), &SMALL)
-}
-
 // The first series has the samples at 1000 and 5000 in no hidden run; those at 2000 and 3000 are in the run from 1500 to
 // 3000, and that at 4000 is in a run of its own. A second one at 1000 is stale. Both of the second series are in none.
 const HIDDEN: Case = Case {
@@ -208,6 +201,7 @@ const HIDDEN: Case = Case {
 };
 
 #[test]
-fn hidden_samples_of_a_log(rt: HostRuntime) -> Result<(), ReplayFault> {
+fn whole_logs(rt: HostRuntime) -> Result<(), ReplayFault> {
+    check(&rt, rt.alloc(), &SMALL)?;
     check(&rt, rt.alloc(), &HIDDEN)
 }

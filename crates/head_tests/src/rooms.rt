@@ -121,11 +121,6 @@ const A_KNOWN_AND_A_NEW_ONE: Case = Case {
     },
 };
 
-#[test]
-fn a_known_and_a_new_series(rt: HostRuntime) -> Result<(), AllocError> {
-    check(&rt, rt.alloc(), &A_KNOWN_AND_A_NEW_ONE)
-}
-
 // Three series of the label a have four texts, which are as many as there may be.
 const TWO_NEW_ONES: Case = Case {
     most: 4,
@@ -147,11 +142,6 @@ const TWO_NEW_ONES: Case = Case {
     },
 };
 
-#[test]
-fn two_new_series_share_a_text(rt: HostRuntime) -> Result<(), AllocError> {
-    check(&rt, rt.alloc(), &TWO_NEW_ONES)
-}
-
 // Both are y, which is new, and the reference 3 is bound to x no longer.
 const ONE_NEW_SERIES_TWICE: Case = Case {
     most: 3,
@@ -169,11 +159,6 @@ const ONE_NEW_SERIES_TWICE: Case = Case {
     },
 };
 
-#[test]
-fn one_new_series_twice(rt: HostRuntime) -> Result<(), AllocError> {
-    check(&rt, rt.alloc(), &ONE_NEW_SERIES_TWICE)
-}
-
 // The second has the fourth text, so that the first is not bound either.
 const ONE_TEXT_TOO_MANY: Case = Case {
     most: 3,
@@ -185,7 +170,17 @@ const ONE_TEXT_TOO_MANY: Case = Case {
     after: &ONE,
 };
 
+const CASES: &[Case] = &[
+    A_KNOWN_AND_A_NEW_ONE,
+    TWO_NEW_ONES,
+    ONE_NEW_SERIES_TWICE,
+    ONE_TEXT_TOO_MANY,
+];
+
 #[test]
 fn both_or_neither(rt: HostRuntime) -> Result<(), AllocError> {
-    check(&rt, rt.alloc(), &ONE_TEXT_TOO_MANY)
+    for case in CASES {
+        check(&rt, rt.alloc(), case)?;
+    }
+    Ok(())
 }

@@ -196,11 +196,6 @@ const REFERENCES_BOUND_ANEW: Case = Case {
     shown_by_copy: &BOUND_ANEW,
 };
 
-#[test]
-fn references_bound_anew(rt: HostRuntime) -> Result<(), AllocError> {
-    check(&rt, rt.alloc(), &REFERENCES_BOUND_ANEW)
-}
-
 const TWO_TEXTS: Shown = Shown {
     series: &[(0, b'x', Some(3))],
     references: &[(3, 0)],
@@ -216,11 +211,6 @@ const THREE_TEXTS: Case = Case {
     more: &[],
     shown_by_copy: &TWO_TEXTS,
 };
-
-#[test]
-fn a_third_text_is_too_many(rt: HostRuntime) -> Result<(), AllocError> {
-    check(&rt, rt.alloc(), &THREE_TEXTS)
-}
 
 const A_COPY: Case = Case {
     most: 3,
@@ -242,9 +232,14 @@ const A_COPY: Case = Case {
     },
 };
 
+const CASES: &[Case] = &[REFERENCES_BOUND_ANEW, THREE_TEXTS, A_COPY];
+
 #[test]
-fn a_copy_goes_its_own_way(rt: HostRuntime) -> Result<(), AllocError> {
-    check(&rt, rt.alloc(), &A_COPY)
+fn tables_and_their_copies(rt: HostRuntime) -> Result<(), AllocError> {
+    for case in CASES {
+        check(&rt, rt.alloc(), case)?;
+    }
+    Ok(())
 }
 
 // Texts, and their numbers, if there is room for them.

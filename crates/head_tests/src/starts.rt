@@ -2,6 +2,7 @@
 
 use crate::log_lines::{NO_FILES, input_of};
 use crate::logs::by;
+use crate::same;
 use head_replay::{Crew, CrewFault, NoGate, ReplayFault, Starts, postings_by, replay_by, tally_by};
 use head_series::SeriesTable;
 use std::alloc::Global;
@@ -34,11 +35,11 @@ fn refused_starts(rt: HostRuntime) -> Result<(), Fail> {
             (None, None)
         };
         let replayed = replay_by(&crew, alloc, &input, &by(7)).err();
-        assert_eq!(rt; replayed, fault, "replay with {number} starts");
+        same(&rt, (number, "replay"), replayed, fault);
         let tallied = tally_by(&crew, alloc, &input, &by(7)).err();
-        assert_eq!(rt; tallied, fault, "tally with {number} starts");
+        same(&rt, (number, "tally"), tallied, fault);
         let listed = fault_of_postings(&crew, alloc);
-        assert_eq!(rt; listed, of_crew, "postings with {number} starts");
+        same(&rt, (number, "postings"), listed, of_crew);
     }
     Ok(())
 }

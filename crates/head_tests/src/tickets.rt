@@ -13,15 +13,15 @@ fn three_tickets(rt: HostRuntime) -> Result<(), Fail> {
         claims.claim(&mut other),
         claims.claim(&mut one),
     ];
-    assert_eq!(rt; drawn, [Some(0), Some(1), Some(2)]);
+    same(&rt, "drawn", drawn, [Some(0), Some(1), Some(2)]);
     let again = [
         claims.claim(&mut one),
         claims.claim(&mut other),
         claims.claim(&mut one),
     ];
-    assert_eq!(rt; again, [None, None, None]);
+    same(&rt, "again", again, [None, None, None]);
     let both = claims.join(one, other);
-    assert_eq!(rt; claims.close(both), 3);
+    same(&rt, "closed", claims.close(both), 3);
     Ok(())
 }
 

@@ -1,7 +1,7 @@
 //! Parts that are not joined.
 
 use crate::deals::dealt;
-use crate::same;
+use crate::{or_memory, same};
 use head_column::Tally;
 use head_deal::{Deal, JoinFault, Part, join_parts, run_part};
 use std::alloc::{AllocError, Global};
@@ -19,7 +19,7 @@ struct Made {
 
 fn make_part(alloc: Global, made: Made) -> Result<Part<Tally>, AllocError> {
     let deal: Deal<Tally> = dealt(alloc, made.tag, made.workers, made.slots)?;
-    for mut part in deal.into_parts().map_err(|_| AllocError)? {
+    for mut part in or_memory(deal.into_parts())? {
         if part.worker() == made.worker {
             if made.runs {
                 run_part(&mut part)?;

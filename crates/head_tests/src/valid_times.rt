@@ -1,11 +1,12 @@
 //! Logs replayed with a least valid time, and heads that are truncated.
 
+use crate::live_views::push_samples;
 use crate::log_lines::{Line, Log, NO_FILES, input_of};
 use crate::logs::{NOTHING, WORKERS};
 use crate::opening::{Entry, head_of, record_of};
 use crate::same;
 use crate::views::{contents, views};
-use head_core::{Counts, Head, Replayed, Slot, replay_serial, replay_serial_from};
+use head_core::{Counts, Head, ReplayFault, Replayed, Slot, replay_serial, replay_serial_from};
 use head_replay::{NoGate, Options, Tallied, replay, tally};
 use std::alloc::{AllocError, Global};
 use std::process::Abort;
@@ -29,9 +30,7 @@ fn push_kept(text: &mut String, head: &Head, slot: Slot) -> Result<(), AllocErro
     if head.is_failed() || head.series() <= slot.index() {
         return Ok(());
     }
-    for sample in &head.samples(slot)? {
-        write!(text, "{}:{} ", sample.time, sample.value)?;
-    }
+    push_samples(text, &head.samples(slot)?)?;
     for run in head.hidden(slot) {
         write!(text, "[{} {}] ", run.min_time, run.max_time)?;
     }
@@ -90,17 +89,26 @@ fn check_truncated(
     Ok(())
 }
 
+// That the head of the log is as the case says. Returns all that it shows, and that without its counts.
+fn check_serial(
+    rt: &impl Abort,
+    alloc: Global,
+    case: &Case,
+    input: &Input,
+) -> Result<(String, String), ReplayFault> {
+    let serial = replay_serial_from(alloc, input, case.min_valid)?;
+    same(rt, case.name, serial.head.counts(), case.counts);
+    let found = kept(alloc, &serial.head)?;
+    same(rt, case.name, found.as_str(), case.kept);
+    drop(found);
+    let shown = views(alloc, &serial.head)?;
+    let content = contents(alloc, &serial.head)?;
+    Ok((shown, content))
+}
+
 fn check<R: Abort + Threads + Wait + Sync>(rt: &R, alloc: Global, case: &Case) -> Result<(), Fail> {
     let input = input_of(alloc, case.log)?;
-    let serial = replay_serial_from(alloc, &input, case.min_valid)?;
-    same(rt, case.name, serial.head.counts(), case.counts);
-    same(
-        rt,
-        case.name,
-        kept(alloc, &serial.head)?.as_str(),
-        case.kept,
-    );
-    let shown = views(alloc, &serial.head)?;
+    let (shown, content) = check_serial(rt, alloc, case, &input)?;
     for workers in WORKERS {
         let options = Options {
             workers,
@@ -109,7 +117,6 @@ fn check<R: Abort + Threads + Wait + Sync>(rt: &R, alloc: Global, case: &Case) -
         };
         check_by(rt, alloc, &input, case, shown.as_str(), &options)?;
     }
-    let content = contents(alloc, &serial.head)?;
     check_truncated(rt, alloc, &input, case, content.as_str())
 }
 
@@ -258,6 +265,27 @@ const LATER: [Entry; 5] = [
     Entry::Sample(9, 999, 5),
 ];
 
+fn check_later(
+    rt: &impl Abort,
+    alloc: Global,
+    head: &mut Head,
+    is_reserved: bool,
+) -> Result<(), Fail> {
+    for entry in LATER {
+        take(alloc, head, entry, is_reserved)?;
+    }
+    if !head.is_failed() {
+        let counts = head.counts();
+        let found = (counts.accepted, counts.hiding, counts.unknown);
+        same(rt, is_reserved, found, (2, 1, 0));
+        let expired = (counts.expired_samples, counts.expired_stones);
+        same(rt, is_reserved, expired, (2, 1));
+    }
+    let left = kept(alloc, head)?;
+    same(rt, is_reserved, left.as_str(), "1000:4 [1000 1000] ;");
+    Ok(())
+}
+
 #[test]
 fn records_after_a_truncation(rt: HostRuntime) -> Result<(), Fail> {
     for is_reserved in [false, true] {
@@ -266,18 +294,9 @@ fn records_after_a_truncation(rt: HostRuntime) -> Result<(), Fail> {
         if !head.is_failed() {
             head.truncate(1000);
         }
-        for entry in LATER {
-            take(rt.alloc(), &mut head, entry, is_reserved)?;
-        }
-        if !head.is_failed() {
-            let counts = head.counts();
-            let found = (counts.accepted, counts.hiding, counts.unknown);
-            same(&rt, is_reserved, found, (2, 1, 0));
-            let expired = (counts.expired_samples, counts.expired_stones);
-            same(&rt, is_reserved, expired, (2, 1));
-        }
-        let left = kept(rt.alloc(), &head)?;
-        same(&rt, is_reserved, left.as_str(), "1000:4 [1000 1000] ;");
+        let outcome = check_later(&rt, rt.alloc(), &mut head, is_reserved);
+        drop(head);
+        outcome?;
     }
     Ok(())
 }

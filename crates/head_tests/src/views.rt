@@ -1,8 +1,14 @@
 //! All that a head shows, as a text.
 
 use head_column::Hour;
-use head_core::{Head, Slot};
+use head_core::{Head, ReplayFault, Slot, replay_serial};
 use std::alloc::{AllocError, Global};
+use std::fmt::Debug;
+use wal_log::Input;
+
+fn push_line<T: Debug + Drop>(text: &mut String, value: T) -> Result<(), AllocError> {
+    write!(text, "{value:?}\n")
+}
 
 fn push_slots(text: &mut String, slots: &[Slot]) -> Result<(), AllocError> {
     for slot in slots {
@@ -17,7 +23,9 @@ fn push_labels(text: &mut String, head: &Head, slot: Slot) -> Result<(), AllocEr
         return Ok(());
     }
     let labels = head.labels(slot)?;
-    write!(text, "{:?} {:?}", labels, head.find(&labels))?;
+    let found = head.find(&labels);
+    write!(text, "{labels:?} {found:?}")?;
+    drop(labels);
     for place in 0..head.pairs(slot) {
         let (name, value) = head.pair(slot, place);
         write!(text, "\n{name:?}={value:?}")?;
@@ -33,35 +41,22 @@ fn push_kept(text: &mut String, head: &Head, slot: Slot) -> Result<(), AllocErro
     }
     write!(
         text,
-        "{:?} {} {:?}\n{:?}\n{:?}\n",
+        "{:?} {} {:?}\n",
         head.reference(slot),
         head.sample_count(slot),
-        head.last_time(slot),
-        head.samples(slot)?,
-        head.hidden(slot)
+        head.last_time(slot)
     )?;
+    push_line(text, head.samples(slot)?)?;
+    push_line(text, head.hidden(slot))?;
     if let Some(time) = head.last_time(slot) {
-        write!(text, "{:?}\n", head.chunks_in(slot, Hour::of(time))?)?;
+        push_line(text, head.chunks_in(slot, Hour::of(time))?)?;
     }
     Ok(())
 }
 
-/// Each view of a head that has not failed, in one text.
-pub fn views(alloc: Global, head: &Head) -> Result<String, AllocError> {
-    let mut text = String::new(alloc);
-    if !head.is_failed() {
-        write!(text, "{:?}\n", head.counts())?;
-    }
-    text.push_str(contents(alloc, head)?.as_str())?;
-    Ok(text)
-}
-
-/// Each view but the counts.
-pub fn contents(alloc: Global, head: &Head) -> Result<String, AllocError> {
-    let mut text = String::new(alloc);
+fn push_contents(text: &mut String, head: &Head) -> Result<(), AllocError> {
     if head.is_failed() {
-        text.push_str("failed")?;
-        return Ok(text);
+        return text.push_str("failed");
     }
     write!(
         text,
@@ -71,10 +66,33 @@ pub fn contents(alloc: Global, head: &Head) -> Result<String, AllocError> {
         head.max_time(),
         head.min_valid()
     )?;
-    push_slots(&mut text, head.all())?;
+    push_slots(text, head.all())?;
     for slot in head.all() {
-        push_labels(&mut text, head, *slot)?;
-        push_kept(&mut text, head, *slot)?;
+        push_labels(text, head, *slot)?;
+        push_kept(text, head, *slot)?;
     }
+    Ok(())
+}
+
+/// Each view of a head that has not failed, in one text.
+pub fn views(alloc: Global, head: &Head) -> Result<String, AllocError> {
+    let mut text = String::new(alloc);
+    if !head.is_failed() {
+        push_line(&mut text, head.counts())?;
+    }
+    push_contents(&mut text, head)?;
+    Ok(text)
+}
+
+/// Each view of the head that a log is replayed to, one record after another.
+pub fn serial_views(alloc: Global, input: &Input) -> Result<String, ReplayFault> {
+    let replayed = replay_serial(alloc, input)?;
+    Ok(views(alloc, &replayed.head)?)
+}
+
+/// Each view but the counts.
+pub fn contents(alloc: Global, head: &Head) -> Result<String, AllocError> {
+    let mut text = String::new(alloc);
+    push_contents(&mut text, head)?;
     Ok(text)
 }
