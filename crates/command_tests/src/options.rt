@@ -67,69 +67,84 @@ fn options_of_replay(rt: HostRuntime) -> Result<(), AllocError> {
     Ok(())
 }
 
+// What is asked for with the options of a replay.
+const OF_EACH: &[(&str, Asked<'static>)] = &[
+    (
+        "replay log",
+        Asked::OfLog(Request::Replay {
+            dir: "log",
+            options: SEVEN,
+        }),
+    ),
+    (
+        "series log",
+        Asked::OfLog(Request::Series {
+            dir: "log",
+            pair: None,
+            options: SEVEN,
+        }),
+    ),
+    (
+        "ranges log",
+        Asked::OfBlocks(BlockRequest::Ranges {
+            dir: "log",
+            options: SEVEN,
+        }),
+    ),
+    (
+        "cut log --hour -1 --ulid=01ARZ3NDEKTSV4RRFFQ69G5FAV --out=out",
+        Asked::OfBlocks(BlockRequest::Cut(CutRequest {
+            dir: "log",
+            hour: -1,
+            ulid: "01ARZ3NDEKTSV4RRFFQ69G5FAV",
+            out: "out",
+            options: SEVEN,
+        })),
+    ),
+    (
+        "analyze log --most 3",
+        Asked::Analyze(AnalyzeRequest {
+            dir: "log",
+            most: 3,
+            bars: false,
+            options: SEVEN,
+        }),
+    ),
+    (
+        "dump log --from=-7 --to 8 --floats",
+        Asked::Dump(DumpRequest {
+            dir: "log",
+            pair: None,
+            from: -7,
+            to: 8,
+            floats: true,
+            hidden: false,
+            options: SEVEN,
+        }),
+    ),
+    (
+        "append log --rows=rows",
+        Asked::Append(AppendRequest {
+            dir: "log",
+            rows: "rows",
+            floats: false,
+            options: SEVEN,
+        }),
+    ),
+];
+
 #[test]
 fn options_of_each_command(rt: HostRuntime) -> Result<(), AllocError> {
-    let (dir, rows, options) = ("log", "rows", SEVEN);
-    let series = Request::Series {
-        dir,
-        pair: None,
-        options,
-    };
-    let cut = CutRequest {
-        dir,
-        hour: -1,
-        ulid: "01ARZ3NDEKTSV4RRFFQ69G5FAV",
-        out: "out",
-        options,
-    };
-    for (line, wanted) in [
-        ("replay log", replay(options)),
-        ("series log", Asked::OfLog(series)),
-        (
-            "ranges log",
-            Asked::OfBlocks(BlockRequest::Ranges { dir, options }),
-        ),
-        (
-            "cut log --hour -1 --ulid=01ARZ3NDEKTSV4RRFFQ69G5FAV --out=out",
-            Asked::OfBlocks(BlockRequest::Cut(cut)),
-        ),
-        (
-            "analyze log --most 3",
-            Asked::Analyze(AnalyzeRequest {
-                dir,
-                most: 3,
-                bars: false,
-                options,
-            }),
-        ),
-        (
-            "dump log --from=-7 --to 8 --floats",
-            Asked::Dump(DumpRequest {
-                dir,
-                pair: None,
-                from: -7,
-                to: 8,
-                floats: true,
-                hidden: false,
-                options,
-            }),
-        ),
-        (
-            "append log --rows=rows",
-            Asked::Append(AppendRequest {
-                dir,
-                rows,
-                floats: false,
-                options,
-            }),
-        ),
-    ] {
+    for (line, wanted) in OF_EACH {
         let line = format!(in rt.alloc();
             "prom_head {line} --workers=7 --round-pages=300 --min-valid=-5"
         )?;
-        assert_asked(&rt, &line, wanted)?;
+        assert_asked(&rt, &line, *wanted)?;
     }
-    let checkpoint = CheckpointRequest { dir, min_valid: -5 };
+    let checkpoint = CheckpointRequest {
+        dir: "log",
+        min_valid: -5,
+    };
     let line = "prom_head checkpoint log --min-valid=-5";
     assert_asked(&rt, line, Asked::Checkpoint(checkpoint))
 }
