@@ -258,10 +258,12 @@ const TWO_FILES: Case = Case {
     ],
 };
 
+const MADE: &[Case] = &[LEAST_VALID_TIME, OVER_CHECKPOINT, NOTHING_LEFT, TWO_FILES];
+
 #[test]
 fn made_of_logs(rt: HostRuntime) -> Result<(), Fail> {
-    for case in [LEAST_VALID_TIME, OVER_CHECKPOINT, NOTHING_LEFT, TWO_FILES] {
-        check(&rt, rt.alloc(), &case)?;
+    for case in MADE {
+        check(&rt, rt.alloc(), case)?;
     }
     Ok(())
 }
@@ -287,19 +289,20 @@ const LARGE_AND_DAMAGED: Log = Log {
 };
 
 // What a checkpoint in files of a page answers.
+const REFUSED: &[(Log, i64, Option<CheckpointFault>)] = &[
+    (NO_FILES, 0, Some(CheckpointFault::NoLog)),
+    (LARGE, 0, Some(CheckpointFault::TooLarge)),
+    (LARGE, 1_000_000, None),
+    (LARGE_AND_DAMAGED, 0, Some(DAMAGED)),
+    (LARGE_AND_DAMAGED, 1_000_000, Some(DAMAGED)),
+];
+
 #[test]
 fn refused_checkpoints(rt: HostRuntime) -> Result<(), Fail> {
-    let alloc = rt.alloc();
-    for (log, min_valid, fault) in [
-        (NO_FILES, 0, Some(CheckpointFault::NoLog)),
-        (LARGE, 0, Some(CheckpointFault::TooLarge)),
-        (LARGE, 1_000_000, None),
-        (LARGE_AND_DAMAGED, 0, Some(DAMAGED)),
-        (LARGE_AND_DAMAGED, 1_000_000, Some(DAMAGED)),
-    ] {
-        let input = input_of(alloc, log)?;
-        let made = make_checkpoint_within(alloc, &input, min_valid, 1).err();
-        same(&rt, min_valid, made, fault);
+    for (log, min_valid, fault) in REFUSED {
+        let input = input_of(rt.alloc(), *log)?;
+        let made = make_checkpoint_within(rt.alloc(), &input, *min_valid, 1).err();
+        same(&rt, *min_valid, made, *fault);
     }
     Ok(())
 }

@@ -223,25 +223,23 @@ pub(crate) const TWO_PAGES_CHANGED: Case = Case {
     }),
 };
 
-#[test]
-fn damage_in_several_pieces(rt: HostRuntime) -> Result<(), Fail> {
-    for case in [LAST_PART_CHANGED, NEVER_ENDED, TWO_PAGES_CHANGED] {
-        check(&rt, rt.alloc(), &case)?;
-    }
-    Ok(())
-}
+// Damage in a record of several pieces, and in each file of a log.
+const DAMAGED: &[Case] = &[
+    LAST_PART_CHANGED,
+    NEVER_ENDED,
+    TWO_PAGES_CHANGED,
+    IN_THE_SECOND,
+    IN_THE_FOURTH,
+    IN_BOTH,
+    BEHIND_A_CHECKPOINT,
+    IN_THE_CHECKPOINT,
+    AT_THE_START,
+];
 
 #[test]
-fn damage_in_each_file(rt: HostRuntime) -> Result<(), Fail> {
-    for case in [
-        IN_THE_SECOND,
-        IN_THE_FOURTH,
-        IN_BOTH,
-        BEHIND_A_CHECKPOINT,
-        IN_THE_CHECKPOINT,
-        AT_THE_START,
-    ] {
-        check(&rt, rt.alloc(), &case)?;
+fn damaged_logs(rt: HostRuntime) -> Result<(), Fail> {
+    for case in DAMAGED {
+        check(&rt, rt.alloc(), case)?;
     }
     Ok(())
 }

@@ -78,6 +78,11 @@ impl<C: Clock> Meeting<C> {
             at_part: Encounter::new(),
         }
     }
+
+    // How many saw the other one there, as they passed and as they ran their parts.
+    fn met(&self) -> (u64, u64) {
+        (self.at_pass.met(), self.at_part.met())
+    }
 }
 
 impl<C: Clock> Gate for Meeting<C> {
@@ -90,30 +95,50 @@ impl<C: Clock> Gate for Meeting<C> {
     }
 }
 
+// That two workers of a replay meet.
+fn check_replay_meets<R: Abort + Threads + Wait + Clock + Sync>(
+    rt: &R,
+    alloc: Global,
+    input: &Input,
+    accepted: u64,
+) -> Result<(), Fail> {
+    let gate = Meeting::new(rt);
+    let replayed = replay(rt, alloc, input, &by(2), &gate)?;
+    let found = (replayed.head.counts().accepted, gate.met());
+    same(rt, "a replay", found, (accepted, (2, 2)));
+    Ok(())
+}
+
+// That two workers of a tally meet.
+fn check_tally_meets<R: Abort + Threads + Wait + Clock + Sync>(
+    rt: &R,
+    alloc: Global,
+    input: &Input,
+    accepted: u64,
+) -> Result<(), Fail> {
+    let gate = Meeting::new(rt);
+    let tallied = tally(rt, alloc, input, &by(2), &gate)?;
+    let found = (tallied.counts.accepted, gate.met());
+    same(rt, "a tally", found, (accepted, (2, 2)));
+    Ok(())
+}
+
+// That two workers of a replay and of a tally of a log meet.
+fn check_meetings<R: Abort + Threads + Wait + Clock + Sync>(
+    rt: &R,
+    alloc: Global,
+    log: Log,
+    accepted: u64,
+) -> Result<(), Fail> {
+    let input = input_of(alloc, log)?;
+    check_replay_meets(rt, alloc, &input, accepted)?;
+    check_tally_meets(rt, alloc, &input, accepted)
+}
+
 #[test]
 fn two_workers_meet(rt: HostRuntime) -> Result<(), Fail> {
-    for (log, accepted) in [(TWO_FILES, 4), (HIDDEN_RUNS.log, 3)] {
-        let input = input_of(rt.alloc(), log)?;
-        let gate = Meeting::new(&rt);
-        let replayed = replay(&rt, rt.alloc(), &input, &by(2), &gate)?;
-        let met = (gate.at_pass.met(), gate.at_part.met());
-        same(
-            &rt,
-            "a replay",
-            (replayed.head.counts().accepted, met),
-            (accepted, (2, 2)),
-        );
-        let gate = Meeting::new(&rt);
-        let tallied = tally(&rt, rt.alloc(), &input, &by(2), &gate)?;
-        let met = (gate.at_pass.met(), gate.at_part.met());
-        same(
-            &rt,
-            "a tally",
-            (tallied.counts.accepted, met),
-            (accepted, (2, 2)),
-        );
-    }
-    Ok(())
+    check_meetings(&rt, rt.alloc(), TWO_FILES, 4)?;
+    check_meetings(&rt, rt.alloc(), HIDDEN_RUNS.log, 3)
 }
 
 // How often each worker came in the first round, and how often anyone else did.
@@ -329,18 +354,17 @@ fn two_pages_take_two_rounds(rt: HostRuntime) -> Result<(), Fail> {
 
 #[test]
 fn no_round_behind_the_damage(rt: HostRuntime) -> Result<(), Fail> {
-    let alloc = rt.alloc();
-    let input = input_of(alloc, TWO_PAGES_CHANGED.log)?;
+    let input = input_of(rt.alloc(), TWO_PAGES_CHANGED.log)?;
     let options = Options {
         workers: 2,
         round_pages: 2,
         min_valid: i64::MIN,
     };
     let gate = Noted::new();
-    let tallied = tally(&rt, alloc, &input, &options, &gate)?;
-    same(&rt, "damage", tallied.damage, TWO_PAGES_CHANGED.damage);
-    same(&rt, "passes", gate.passes.seen(), (2, 2, 0));
-    same(&rt, "parts", gate.parts.seen(), (2, 2, 0));
+    let tallied = tally(&rt, rt.alloc(), &input, &options, &gate)?;
+    let found = (tallied.damage, gate.passes.seen(), gate.parts.seen());
+    let wanted = (TWO_PAGES_CHANGED.damage, (2, 2, 0), (2, 2, 0));
+    same(&rt, "a tally", found, wanted);
     Ok(())
 }
 

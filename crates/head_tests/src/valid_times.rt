@@ -233,10 +233,12 @@ const GREATEST_TIME: Case = Case {
     kept: "9223372036854775807:2 ;",
 };
 
+const CASES: &[Case] = &[LEAST_VALID_TIME, DELETIONS, LEAST_TIME, GREATEST_TIME];
+
 #[test]
 fn least_valid_time(rt: HostRuntime) -> Result<(), Fail> {
-    for case in [LEAST_VALID_TIME, DELETIONS, LEAST_TIME, GREATEST_TIME] {
-        check(&rt, rt.alloc(), &case)?;
+    for case in CASES {
+        check(&rt, rt.alloc(), case)?;
     }
     Ok(())
 }

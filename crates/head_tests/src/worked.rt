@@ -313,7 +313,7 @@ const FIVE_FILES: Case = Case {
 };
 
 /// The worked logs that a replay takes to their end.
-pub(crate) const WORKED: [Case; 11] = [
+pub(crate) const WORKED: &[Case] = &[
     EMPTY_DIRECTORY,
     ONE_SERIES,
     SKIPPED_RECORDS,
@@ -330,7 +330,7 @@ pub(crate) const WORKED: [Case; 11] = [
 #[test]
 fn worked_logs(rt: HostRuntime) -> Result<(), Fail> {
     for case in WORKED {
-        check(&rt, rt.alloc(), &case)?;
+        check(&rt, rt.alloc(), case)?;
     }
     Ok(())
 }
