@@ -9,12 +9,12 @@ use Rattle.std.specs.declared.sync.ledger.Ledger as Ledger
 use Rattle.std.proofs.sync.ledger.Book.TheSendSync as Book
 use Rattle.std.proofs.sync.ledger.Share.TheSendSync as Share
 use Rattle.wal_log.proofs.writer.LogWriter.TheSendSync as LogWriter
-use Rattle.head_series.proofs.heap.Heap.TheLaws.TheKnot as Knot
+use Rattle.series_references.proofs.heap.Heap.TheLaws.TheKnot as Knot
 use Rattle.head_series.proofs.interner.Interner.TheSendSync as Interner
-use Rattle.head_series.proofs.reference_slots.ReferenceSlots.TheSendSync as ReferenceSlots
+use Rattle.series_references.proofs.reference_slots.ReferenceSlots.TheSendSync as ReferenceSlots
 use Rattle.head_series.proofs.rows.Row.TheSendSync as Row
 use Rattle.head_series.specs.contracts.table.SeriesTable as SeriesTable
-use Rattle.head_series.specs.contracts.references.References as References
+use Rattle.series_references.specs.contracts.references.References as References
 use Rattle.head_column.proofs.column.Column.TheSendSync as Column
 use Rattle.head_postings.proofs.postings.Postings.TheSendSync as Postings
 use Rattle.head_core.specs.contracts.resolver.Resolver as Resolver
