@@ -1,13 +1,10 @@
 -- What was told and what a head holds, a row at a time.
-use Rattle.std.proofs.Common.{◌≡◌, ℕ, zero, suc, ◌+◌, ◌<◌, Bool, true, false, List, [], ◌∷◌, ◌++◌, Some, ap, sym, ◌∙◌, refl, append_assoc, arith, length, get_or, take}
-use Rattle.std.specs.Bool.{Decides}
-use Rattle.std.specs.Ordering.{int_eq}
-use Rattle.std.specs.Prelude.{ℤ, ◌&&◌, ◌||◌, nat_eq, drop, filter, int_le, map, slice_get, unwrap_or}
+use Rattle.std.proofs.Common.{◌≡◌, ℕ, zero, suc, ◌+◌, ◌<◌, Bool, List, [], ◌∷◌, ◌++◌, Some, ap, sym, ◌∙◌, refl, append_assoc, arith, length, get_or, take}
+use Rattle.std.specs.Prelude.{ℤ, ◌||◌, drop, filter, int_le, map, slice_get, unwrap_or}
 use Rattle.std.specs.List.{enumerate_from, flat_map, list_any}
 use Rattle.std.proofs.lemmas.Grind.{flat_map-append}
 use Rattle.std.proofs.lemmas.List.{append-nil, length-take-le, map-append, take_more}
 use Rattle.std.proofs.lemmas.List.Elements.{filter-append}
-use Rattle.std.proofs.lemmas.Bool.Decides.{Decides-eqb, Decides-int_eq}
 use Rattle.std.proofs.lemmas.Option.{unwrap_or-slice_get}
 use Rattle.wal_record.specs.Labels.{Labels, same_labels}
 use Rattle.head_column.specs.declared.items.Sample.{Sample}
@@ -26,7 +23,6 @@ use Rattle.head_judging.specs.Rows.{Row}
 use Rattle.head_judging.specs.Told.{Answer, AppenderState, accepted_rows, answer_of, row_told}
 use Rattle.head_judging.specs.Verdicts.{is_accepted, samples_in, samples_at}
 use Rattle.head_judging.proofs.SetLemmas.{at_place}
-use Rattle.head_judging.proofs.OrderLemmas.{placed_whole}
 use Rattle.head_judging.proofs.TimeLemmas.{reaches_greatest}
 
 pub accepted_rows-append : (a b : List Answer) → accepted_rows (a ++ b) ≡ accepted_rows a ++ accepted_rows b

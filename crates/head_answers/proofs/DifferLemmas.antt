@@ -1,5 +1,5 @@
 -- What a head cannot hold of what was told.
-use Rattle.std.proofs.Common.{◌≡◌, ℕ, zero, suc, ◌+◌, ◌^◌, ◌<◌, ◌≤◌, false, true≢false, List, [], ◌∷◌, ◌++◌, All, IsPermutation, MatchOption, Option, Some, None, ap, ap₂, sym, subst, ◌∙◌, refl, arith, cond, length, get_or, filter, flat_map, map, slice_get, unwrap_or}
+use Rattle.std.proofs.Common.{◌≡◌, ℕ, zero, suc, ◌+◌, ◌<◌, false, true≢false, List, [], ◌∷◌, ◌++◌, All, IsPermutation, Some, None, ap, ap₂, sym, subst, ◌∙◌, refl, arith, cond, length, get_or, filter, flat_map, map, slice_get, unwrap_or}
 use Rattle.std.specs.List.{enumerate_from}
 use Rattle.std.proofs.lemmas.List.{get_or-map, length-map}
 use Rattle.std.proofs.lemmas.List.Elements.{All-append, All-cons, All-head, All-map, All-nil, All-tail}
