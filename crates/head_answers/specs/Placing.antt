@@ -1,4 +1,4 @@
--- Words of private functions and of proofs: samples with the slots of their series.
+-- Placed samples as rows, and what a head can hold of what was told.
 use Rattle.std.specs.Prelude.{◌≡◌, ◌<◌, List, [], None, ℕ, All, length, map, slice_get, unwrap_or}
 use Rattle.wal_record.specs.Labels.{Labels, same_labels}
 use Rattle.head_series.specs.Texts.{place}

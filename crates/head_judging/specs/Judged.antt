@@ -1,4 +1,4 @@
--- Words of private functions and of proofs: the entries of rows, and the state while rows are judged.
+-- The entries of rows; and words of private functions and of proofs: the state while rows are judged.
 use Rattle.std.specs.Prelude.{◌≡◌, ◌≤ℤ◌, ℕ, ℤ, ◌+◌, ◌≤◌, ◌<◌, ◌^◌, Bool, ◌||◌, List, [], ◌∷◌, All, Option, None, Some, false, int_le, int_lt, length, map, nat_lt, slice_index_or, if◌then◌else◌}
 use Rattle.std.specs.List.{list_any}
 use Rattle.std.specs.Option.{option_map, option_and_then}

@@ -1,4 +1,4 @@
--- Samples with the slots of their series: words of private functions and of proofs.
+-- Samples with the slots of their series.
 use Rattle.std.specs.Prelude.{◌≡◌, ◌<◌, ◌<ℤ◌, ◌⊎◌, ℕ}
 use Rattle.head_column.specs.declared.items.Sample.{Sample}
 use Rattle.head_judging.specs.declared.placed.PlacedSample.{PlacedSample}
