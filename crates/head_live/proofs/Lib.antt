@@ -1,14 +1,3 @@
-pub mod ValidRows
-pub mod Leading
-pub mod Appending
-pub mod SetLemmas
-pub mod TimeLemmas
-pub mod RowLemmas
-pub mod JudgeLemmas
-pub mod StartLemmas
-pub mod PrepareLemmas
-pub mod OrderLemmas
-pub mod CloseLemmas
-pub mod DifferLemmas
 pub mod TellLemmas
+pub mod TotalLemmas
 pub mod Sends

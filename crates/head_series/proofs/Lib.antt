@@ -1,9 +1,6 @@
-pub mod HasLemmas
-pub mod KeptLemmas
 pub mod Places
 pub mod Distinct
 pub mod TextLemmas
-pub mod SlotLemmas
 pub mod Shown
 pub mod RowLemmas
 pub mod SoundLemmas

@@ -7,7 +7,7 @@ use Rattle.wal_record.specs.declared.labels.Label.{Label}
 use Rattle.wal_record.specs.Labels.{same_text, same_labels}
 use Rattle.head_series.specs.Texts.{Text, has_text, with_text, with_texts, texts_of}
 use Rattle.head_series.specs.Table.{Labels, Table, has_series, with_series, AreAlike}
-use Rattle.head_series.specs.ReferenceSlots.{low_end}
+use Rattle.series_references.specs.ReferenceSlots.{low_end}
 use Rattle.head_series.specs.Bindings.{Binding}
 use Rattle.head_series.specs.Room.{texts_seen, Fits, HavePlaces, IsPlanOf, IsReserved, Planned, series_after, texts_after, text_count, high_count, high_one}
 use Rattle.head_series.proofs.TextLemmas.{take_more, texts_of-push, with_texts-append}

@@ -6,7 +6,7 @@ use Rattle.wal_record.specs.declared.labels.Label.{Label}
 use Rattle.wal_record.specs.Labels.{same_text}
 use Rattle.head_series.specs.Rows.{labels_in, IsRead}
 use Rattle.head_series.specs.Texts.{Text, TextTable, place, has_text, with_text, with_texts, texts_of}
-use Rattle.head_series.proofs.CopyLemmas.{drop_at}
+use Rattle.series_references.proofs.EntryLemmas.{drop_at}
 use Rattle.head_series.proofs.TextLemmas.{IsRead-push, with_texts-append, with_texts_length}
 
 pub texts_of-append : (xs ys : List Label) → texts_of (xs ++ ys) ≡ texts_of xs ++ texts_of ys

@@ -3,9 +3,9 @@ use Rattle.std.proofs.Common.{◌≡◌, ℕ, Option, Some, None, Result, Ok, Er
 use Rattle.std.specs.Prelude.{◌==◌, nat_eq, if◌then◌else◌}
 use Rattle.std.specs.Map.{lookup}
 use Rattle.std.specs.Result.{OnErr}
-use Rattle.head_series.specs.ReferenceSlots.{ReferenceSlotsValue, pairs_of, slot_of}
+use Rattle.series_references.specs.ReferenceSlots.{ReferenceSlotsValue, pairs_of, slot_of}
 use Rattle.head_series.specs.Table.{Table, slot_at, AreAlike, IsLeast, IsWith}
-use Rattle.head_series.proofs.SlotLemmas.{shown_slot}
+use Rattle.series_references.proofs.SlotLemmas.{shown_slot}
 
 pub slot_shown : (t : Table) (o : ReferenceSlotsValue) → pairs_of o ≡ t.slots → (r : ℕ) → slot_at t r ≡ slot_of o r
 slot_shown t o e r = ap (lookup (nat_eq r)) (sym e) ∙ shown_slot o r

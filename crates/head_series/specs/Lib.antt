@@ -1,11 +1,6 @@
 pub mod Texts
 pub mod Rows
 pub mod Table
-pub mod ReferenceSlots
 pub mod Bindings
 pub mod Room
-pub mod Has
-pub mod Heap
-pub mod HeapFalls
-pub mod References
 pub mod Sound

@@ -1,8 +1,9 @@
 -- The room of a table for bindings.
-use Rattle.std.specs.Prelude.{◌≡◌, ℕ, ◌+◌, ◌<◌, ◌≤◌, List, [], ◌∷◌, ◌++◌, length, nat_lt, if◌then◌else◌}
+use Rattle.std.specs.Prelude.{◌≡◌, ℕ, ◌+◌, ◌<◌, ◌≤◌, List, [], ◌∷◌, ◌++◌, length, if◌then◌else◌}
 use Rattle.head_series.specs.Texts.{Text, with_texts, texts_of}
 use Rattle.head_series.specs.Table.{Labels, Table, has_series, with_series}
-use Rattle.head_series.specs.ReferenceSlots.{low_end}
+use Rattle.series_references.specs.ReferenceSlots.{low_end}
+pub use Rattle.series_references.specs.ReferenceSlots.{high_one}
 use Rattle.head_series.specs.Bindings.{Binding}
 
 -- the texts once the label set was seen by a table of these series
@@ -18,10 +19,6 @@ Fits most ss ts (b ∷ bs) = (length (with_series ss b.labels) ≤ most) × (len
 abbrev pub text_count : List Binding → ℕ
 text_count [] = 0
 text_count (b ∷ bs) = length (texts_of b.labels) + text_count bs
-
--- 1 for a reference from `low_end` on, and 0 for one below
-abbrev pub high_one : ℕ → ℕ
-high_one r = if nat_lt r low_end then 0 else 1
 
 -- the number of references from `low_end` on
 abbrev pub high_count : List Binding → ℕ

@@ -1,14 +1,14 @@
 -- Series in the order of first sight, and the slots of references.
-use Rattle.std.specs.Prelude.{◌≡◌, ℕ, ◌+◌, ◌<◌, ◌≤◌, ◌==◌, ◌⊎◌, Bool, false, List, [], ◌∷◌, ◌++◌, length, nat_eq, nat_lt, if◌then◌else◌, Option, Some, None, slice_index_or}
+use Rattle.std.specs.Prelude.{◌≡◌, ℕ, ◌+◌, ◌<◌, ◌⊎◌, Bool, false, List, [], ◌∷◌, ◌++◌, length, nat_eq, nat_lt, if◌then◌else◌, Option, Some, None, slice_index_or}
 use Rattle.std.specs.List.{list_any}
 use Rattle.std.specs.Map.{lookup}
 pub use Rattle.wal_record.specs.Labels.{Labels}
 use Rattle.wal_record.specs.Labels.{same_labels}
-use Rattle.hw_bytes.specs.Lists.{greater_by}
+pub use Rattle.series_references.specs.Slots.{IsLeast, IsWith, with_greatest}
 use Rattle.head_series.specs.Texts.{Text, with_texts, texts_of}
 
 -- How much more can be added without allocating: rows of series, their lower bounds, their places by hash, and texts; small references,
--- those below `places`; and this many others. specs/ReferenceSlots says which are small.
+-- those below `places`; and this many others. `low_end` says which are small.
 pub record Room : Type 0 where
   pub rows : ℕ
   pub lower_bounds : ℕ
@@ -52,23 +52,10 @@ texts_with t ls = if has_series t.series ls then t.texts else with_texts t.texts
 abbrev pub IsFull : Table → Labels → Type 0
 IsFull t ls = (has_series t.series ls ≡ false) × ((length t.series ≡ t.most) ⊎ (t.most < length (with_texts t.texts (texts_of ls))))
 
--- the slots of references, with that of the reference q replaced by s
-abbrev pub IsWith : (ℕ → Option ℕ) → ℕ → ℕ → (ℕ → Option ℕ) → Type 0
-IsWith old q s new = (r : ℕ) → new r ≡ (if q == r then Some s else old r)
-
--- the greatest of these and r
-abbrev pub with_greatest : Option ℕ → ℕ → Option ℕ
-with_greatest = greater_by nat_lt
-
 -- one more than the greatest; 1 if there is none, and none if that was 2 ^ 64 - 1
 abbrev pub after : Option ℕ → Option ℕ
 after None = Some 1
 after (Some g) = if nat_lt g 18446744073709551615 then Some (g + 1) else None
-
--- the least number that has the property, or none if none has it
-abbrev pub IsLeast : (ℕ → Type 0) → Option ℕ → Type 0
-IsLeast has None = (r : ℕ) → has r → ⊥
-IsLeast has (Some q) = has q × ((r : ℕ) → has r → q ≤ r)
 
 -- two tables that no call tells apart
 pub record AreAlike (t u : Table) : Type 0 where

@@ -5,17 +5,12 @@
 //! bindings entirely or not at all, use `plan` and `reserve`, which make room for it; `bind_ready` then never fails.
 #![tactic(auto)]
 
-mod candidates;
 mod comparing;
-mod heap;
 mod interner;
 mod laws;
-mod maps;
 mod plan;
 mod planning;
 mod ready;
-mod reference_slots;
-mod references;
 mod rows;
 mod table;
 mod views;

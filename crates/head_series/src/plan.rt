@@ -5,8 +5,8 @@ ghost use Rattle.head_series.specs.Room.{high_one};
 ghost use Rattle.head_series.specs.Table.{has_series};
 
 use crate::interner::Interner;
-use crate::reference_slots::LOW_END;
 use crate::table::SeriesTable;
+use series_references::LOW_END;
 use std::alloc::{AllocError, Global};
 use std::marker::Model;
 use wal_record::LabelSet;

@@ -2,7 +2,7 @@
 
 ghost use Rattle.std.specs.Prelude.{◌≡◌, ◌+◌, ◌<◌, ◌≤◌, ◌++◌, ◌∷◌, [], ℕ, Some, None, Err, false, List, length, IfOk, OnOk};
 ghost use Rattle.head_series.specs.Bindings.{Binding};
-ghost use Rattle.head_series.specs.ReferenceSlots.{low_end};
+ghost use Rattle.series_references.specs.ReferenceSlots.{low_end};
 ghost use Rattle.head_series.specs.Room.{Fits, IsPlanOf, IsReserved};
 ghost use Rattle.head_series.specs.Table.{has_series, AreAlike};
 

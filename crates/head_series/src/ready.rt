@@ -4,7 +4,7 @@ ghost use Rattle.std.specs.Prelude.{◌≡◌, ◌≤◌, [], length, map, rever
 ghost use Rattle.std.specs.Vec.{vec_capacity};
 ghost use Rattle.head_series.specs.Rows.{label};
 
-use crate::heap::Heap;
+use series_references::Heap;
 use std::alloc::{AllocError, Global};
 use std::marker::Model;
 use wal_record::LabelSet;

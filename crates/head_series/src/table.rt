@@ -3,17 +3,16 @@
 ghost use Rattle.std.specs.Prelude.{◌≡◌, ◌+◌, ◌<◌, ◌≤◌, ◌++◌, ◌∷◌, [], ℕ, Some, None, Err, false, List, not, length, IfOk, OnOk, OnErr, IsOk};
 ghost use Rattle.wal_record.specs.Labels.{same_labels};
 ghost use Rattle.head_series.specs.Bindings.{Binding, IsTableOf};
-ghost use Rattle.head_series.specs.ReferenceSlots.{low_end};
+ghost use Rattle.series_references.specs.ReferenceSlots.{low_end};
 ghost use Rattle.head_series.specs.Room.{high_one, HasRoom, Uses};
 ghost use Rattle.head_series.specs.Table.{has_series, slot_at, texts_with, with_greatest, with_series, AreAlike, IsFull, IsWith, Labels};
 ghost use Rattle.head_series.specs.Texts.{place, with_texts, texts_of};
 
-use crate::heap::Heap;
 use crate::interner::{InternFault, Interner};
 use crate::ready::Ready;
-use crate::references::References;
 use crate::rows::{Row, last_numbers, last_with, note_last};
 use indexmap::IndexMap;
+use series_references::{Heap, References, with_reference};
 use std::alloc::{AllocError, Global};
 use std::error::Error;
 use std::fmt;
@@ -91,7 +90,7 @@ impl Model for SeriesTable {
     ghost use Rattle.std.specs.Prelude.{◌-◌, length, map};
     ghost use Rattle.std.specs.Vec.{vec_capacity, vec_len};
     ghost use Rattle.indexmap.specs.IndexMap.{spare};
-    ghost use Rattle.head_series.specs.ReferenceSlots.{pairs_of};
+    ghost use Rattle.series_references.specs.ReferenceSlots.{pairs_of};
     ghost use Rattle.head_series.specs.Rows.{labels_in};
     ghost use Rattle.head_series.specs.Sound.{IsSound};
     ghost use Rattle.head_series.specs.Table.{Table};
@@ -115,22 +114,6 @@ impl Model for SeriesTable {
     } };
 
     ghost invariant = { λ t. IsSound t.texts t.most (map (λ r. r.numbers.items) t.rows.items) (map (λ r. r.previous) t.rows.items) t.last_by_hash.entries t.references.series };
-}
-
-// Returns the greater of the greatest reference so far and one more reference.
-fn with_reference(greatest: Option<u64>, reference: u64) -> Option<u64>
-    ensures { result ≡ with_greatest greatest reference }
-{
-    match greatest {
-        None => Some(reference),
-        Some(greatest) => {
-            if greatest < reference {
-                Some(reference)
-            } else {
-                Some(greatest)
-            }
-        }
-    }
 }
 
 impl SeriesTable {
@@ -245,7 +228,7 @@ impl SeriesTable {
     {
         // gives the proof the invariant, which it knows where a field is named
         let _most = self.most;
-        let number = self.rows.len() as u32;
+        let number = self.references.next_slot();
         let numbers = self.texts.put_all(ready);
         let hash = labels.hash();
         let previous = last_with(&self.last_by_hash, hash);

@@ -7,9 +7,9 @@ ghost use Rattle.head_series.specs.Table.{after, labels_at, slot_at, AreAlike, I
 ghost use Rattle.head_series.specs.Texts.{place};
 
 use crate::comparing::compare_numbers;
-use crate::maps::copied;
 use crate::rows::{copied_rows, is_named, last_with};
 use crate::table::SeriesTable;
+use series_references::copied;
 use std::alloc::AllocError;
 use std::cmp::Ordering;
 use wal_record::{LabelFault, LabelSet, Slot};

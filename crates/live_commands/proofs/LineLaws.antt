@@ -12,8 +12,8 @@ use Rattle.std.specs.List.{AllZip, IsFirstMatchOrLen}
 use Rattle.std.specs.Slice.Iter.{split_callee, split_done, split_rest, split_steps}
 use Rattle.prom_store.specs.Found.{Bytes, Found}
 use Rattle.live_commands.specs.RowTexts.{AreRowsAt, AreRowsOf, IsRowLine, lines_text}
-use Rattle.head_live.specs.Rows.{Row, row_of}
-use Rattle.head_live.specs.declared.rows.RawRow.{RawRow}
+use Rattle.head_judging.specs.Rows.{Row, row_of}
+use Rattle.head_judging.specs.declared.rows.RawRow.{RawRow}
 
 -- ---- the lines of a text, which is cut at its newlines, and their numbers
 

@@ -10,7 +10,7 @@ use Rattle.std.specs.Str.Pattern.{FindsChar}
 use Rattle.live_commands.specs.RowTexts.{IsNumberText, IsRowLine, IsValueText, label_word}
 use Rattle.wal_record.specs.declared.labels.Label.{Label}
 use Rattle.wal_record.specs.Labels.{label}
-use Rattle.head_live.specs.Rows.{Row}
+use Rattle.head_judging.specs.Rows.{Row}
 use Rattle.prom_commands.specs.Spellings.{pair_text}
 use mir.Val.{of_z, to_z}
 

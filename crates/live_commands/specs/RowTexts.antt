@@ -4,7 +4,7 @@ use Rattle.std.specs.List.{AllZip, flat_map}
 use Rattle.std.specs.Str.Parse.{IsNumeral, digits_value}
 use Rattle.float_text.specs.FloatText.{Reads}
 use Rattle.wal_record.specs.declared.labels.Label.{Label}
-use Rattle.head_live.specs.Rows.{Row}
+use Rattle.head_judging.specs.Rows.{Row}
 use Rattle.prom_store.specs.Found.{Bytes, Found}
 use Rattle.prom_commands.specs.Spellings.{pair_text}
 

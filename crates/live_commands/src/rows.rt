@@ -1,7 +1,7 @@
 //! Parsing a file of rows.
 
 ghost use Rattle.std.specs.Prelude.{IfOk, IfSome, map};
-ghost use Rattle.head_live.specs.Rows.{row_of as row_seen};
+ghost use Rattle.head_judging.specs.Rows.{row_of as row_seen};
 ghost use Rattle.live_commands.specs.RowTexts.{AreRowsOf, IsNumberText, IsRowLine, IsValueText};
 
 use float_text::bits_of_text;

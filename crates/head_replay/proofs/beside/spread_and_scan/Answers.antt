@@ -3,11 +3,11 @@ use denote.Param.Send.{IsSync, sendable}
 use Rattle.std.proofs.Crossing.{crosses}
 use Rattle.wal_scan.proofs.samples.PageRecords.TheSendSync as PageRecords
 use Rattle.head_deal.proofs.seats.Seats.TheSendSync as Seats
-use Rattle.head_series.proofs.heap.Heap.TheLaws.TheKnot as Knot
+use Rattle.series_references.proofs.heap.Heap.TheLaws.TheKnot as Knot
 use Rattle.head_series.proofs.interner.Interner.TheSendSync as Interner
-use Rattle.head_series.proofs.reference_slots.ReferenceSlots.TheSendSync as ReferenceSlots
+use Rattle.series_references.proofs.reference_slots.ReferenceSlots.TheSendSync as ReferenceSlots
 use Rattle.head_series.proofs.rows.Row.TheSendSync as Row
-use Rattle.head_series.specs.contracts.references.References as References
+use Rattle.series_references.specs.contracts.references.References as References
 use Rattle.head_series.specs.contracts.table.SeriesTable as SeriesTable
 use Rattle.head_core.proofs.changes.Changes.TheSendSync as Changes
 use Rattle.head_core.specs.contracts.resolver.Resolver as Resolver

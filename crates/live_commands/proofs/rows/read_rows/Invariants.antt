@@ -1,5 +1,5 @@
 use Rattle.std.proofs.Common.{◌≡◌, ◌+◌, map, vec_len}
-use Rattle.head_live.specs.Rows.{row_of}
+use Rattle.head_judging.specs.Rows.{row_of}
 use Rattle.live_commands.proofs.LineLaws.{AreReadUpTo, lines_left, next_number}
 use Rattle.live_commands.proofs.rows.read_rows.Given as goal
 

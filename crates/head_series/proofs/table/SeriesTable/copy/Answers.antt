@@ -1,7 +1,7 @@
 use Rattle.std.proofs.Common.{◌≡◌, List, ap, ◌∙◌, refl}
 use Rattle.std.specs.Prelude.{map}
 use Rattle.head_series.specs.declared.rows.Row.{Row}
-use Rattle.head_series.specs.ReferenceSlots.{pairs_of}
+use Rattle.series_references.specs.ReferenceSlots.{pairs_of}
 use Rattle.head_series.specs.Rows.{labels_in}
 use Rattle.head_series.specs.Texts.{Text}
 use Rattle.head_series.proofs.Shown.{alike_shown}

@@ -3,7 +3,7 @@ use Rattle.std.specs.Prelude.{map, ◌==◌, if◌then◌else◌}
 use Rattle.std.proofs.lemmas.List.{length-map}
 use Rattle.head_series.specs.Texts.{Text, texts_of}
 use Rattle.head_series.specs.Rows.{labels_in}
-use Rattle.head_series.specs.ReferenceSlots.{slot_of}
+use Rattle.series_references.specs.ReferenceSlots.{slot_of}
 use Rattle.head_series.specs.Table.{has_series}
 use Rattle.head_series.specs.declared.rows.Row.{Row}
 use Rattle.head_series.proofs.Shown.{alike_shown, on_err, with_shown}

@@ -1,5 +1,5 @@
 use Rattle.std.proofs.Common.{◌≡◌, Some, None, ap, sym, ◌∙◌, arith, length}
-use Rattle.head_series.specs.ReferenceSlots.{pairs_of, slot_of}
+use Rattle.series_references.specs.ReferenceSlots.{pairs_of, slot_of}
 use Rattle.head_series.proofs.Shown.{slot_shown}
 use Rattle.std.specs.Prelude.{map}
 use Rattle.std.proofs.lemmas.List.{length-map}

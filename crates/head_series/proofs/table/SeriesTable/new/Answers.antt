@@ -2,7 +2,7 @@ use Rattle.std.proofs.Common.{List, ap, ◌∙◌, refl}
 use Rattle.std.specs.Prelude.{map}
 use Rattle.head_series.specs.declared.rows.Row.{Row}
 use Rattle.head_series.specs.Rows.{labels_in}
-use Rattle.head_series.proofs.SlotLemmas.{shown_slot}
+use Rattle.series_references.proofs.SlotLemmas.{shown_slot}
 use Rattle.head_series.proofs.BindLemmas.{table_of_none}
 use Rattle.head_series.proofs.table.SeriesTable.new.Goals as goal
 

@@ -1,7 +1,7 @@
 use Rattle.std.proofs.Common.{Some, ap, sym, ◌∙◌, refl}
 use Rattle.std.specs.Prelude.{◌==◌, if◌then◌else◌}
 use Rattle.head_series.proofs.Shown.{alike_shown, kept_shown, on_err, slot_shown}
-use Rattle.head_series.proofs.SlotLemmas.{shown_slot}
+use Rattle.series_references.proofs.SlotLemmas.{shown_slot}
 use Rattle.head_series.proofs.table.SeriesTable.point.Goals as goal
 
 pub returns-in_err-reserve-clause-kept : goal.returns-in_err-reserve-clause-kept

@@ -1,6 +1,6 @@
 use Rattle.std.proofs.Common.{Some, ap, ◌∙◌}
 use Rattle.std.specs.Prelude.{◌==◌, if◌then◌else◌}
-use Rattle.head_series.specs.ReferenceSlots.{slot_of}
+use Rattle.series_references.specs.ReferenceSlots.{slot_of}
 use Rattle.head_series.specs.Table.{IsWith}
 use Rattle.head_series.proofs.Shown.{with_shown}
 use Rattle.head_series.proofs.table.SeriesTable.point_ready.Goals as goal

@@ -2,7 +2,7 @@ use Rattle.std.proofs.Common.{◌≡◌, Some, ap, subst, arith, length}
 use Rattle.std.specs.Prelude.{map}
 use Rattle.std.proofs.lemmas.List.{length-map}
 use Rattle.head_series.specs.declared.rows.Row.{Row}
-use Rattle.head_series.specs.ReferenceSlots.{pairs_of, slot_of}
+use Rattle.series_references.specs.ReferenceSlots.{pairs_of, slot_of}
 use Rattle.head_series.specs.Table.{IsLeast}
 use Rattle.head_series.proofs.Shown.{least_shown}
 use Rattle.head_series.proofs.table.SeriesTable.reference.Goals as goal

@@ -1,0 +1,2 @@
+pub mod CloseLemmas
+pub mod DifferLemmas

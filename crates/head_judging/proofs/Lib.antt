@@ -1,0 +1,10 @@
+pub mod SetLemmas
+pub mod TimeLemmas
+pub mod AcceptedRows
+pub mod RowLemmas
+pub mod JudgeLemmas
+pub mod StartLemmas
+pub mod PrepareLemmas
+pub mod MappedLemmas
+pub mod OrderLemmas
+pub mod PlacedLemmas

@@ -1,0 +1,4 @@
+pub mod ValidRows
+pub mod Leading
+pub mod Appending
+pub mod Sends

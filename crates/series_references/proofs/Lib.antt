@@ -1,0 +1,4 @@
+pub mod HasLemmas
+pub mod KeptLemmas
+pub mod SlotLemmas
+pub mod EntryLemmas

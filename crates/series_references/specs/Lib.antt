@@ -1,0 +1,6 @@
+pub mod Slots
+pub mod ReferenceSlots
+pub mod Has
+pub mod Heap
+pub mod HeapFalls
+pub mod References

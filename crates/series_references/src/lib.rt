@@ -1,0 +1,19 @@
+//! Which series each reference names.
+//!
+//! A series is known here by its slot alone, its number in the order of first sight. A reference has the slot that it was last given; the
+//! look-up of it is one step, and so is that of the least reference of a slot. Room for slots is made beforehand, and giving a reference a
+//! slot then never fails.
+#![tactic(auto)]
+
+mod candidates;
+mod greatest;
+mod heap;
+mod maps;
+mod reference_slots;
+mod references;
+
+pub use greatest::with_reference;
+pub use heap::Heap;
+pub use maps::copied;
+pub use reference_slots::LOW_END;
+pub use references::References;
