@@ -22,9 +22,9 @@ use Rattle.head_column.specs.Samples.{Rises}
 use Rattle.head_series.specs.Rows.{AreDistinct}
 use Rattle.head_core.specs.Content.{Content}
 use Rattle.head_core.specs.Heads.{history_at}
-use Rattle.block_index.specs.Rows.{IsChain}
-use Rattle.block_index.specs.Sets.{ascending}
-use Rattle.block_index.proofs.Ranks.{Has, IsAscending, ascending-is, ascending-of}
+use Rattle.index_parts.specs.Rows.{IsChain}
+use Rattle.index_parts.specs.Sets.{ascending}
+use Rattle.index_parts.proofs.Ranks.{Has, IsAscending, ascending-is, ascending-of}
 use Rattle.block_read.specs.declared.rows.BlockRow.{BlockRow}
 use Rattle.block_read.specs.Blocks.{IsRowOf}
 use Rattle.block_cut.specs.declared.rows.CutRow.{CutRow}

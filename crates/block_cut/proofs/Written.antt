@@ -20,9 +20,9 @@ use Rattle.head_column.proofs.HourLaws.{above_least, below_greatest, inside}
 use Rattle.block_text.specs.declared.fault.WriteFault.{WriteFault}
 use Rattle.block_text.specs.declared.fault.WriteFault.TheVariants.{TooLarge, Memory}
 use Rattle.block_text.specs.Sums.{Text}
-use Rattle.block_index.specs.declared.row.ChunkMeta.{ChunkMeta}
-use Rattle.block_index.specs.declared.row.IndexRow.{IndexRow}
-use Rattle.block_index.specs.Rows.{AreRows, FitsChunk, FitsIndex, IsChain, IsRow}
+use Rattle.index_parts.specs.declared.row.ChunkMeta.{ChunkMeta}
+use Rattle.index_parts.specs.declared.row.IndexRow.{IndexRow}
+use Rattle.index_parts.specs.Rows.{AreRows, FitsChunk, FitsIndex, IsChain, IsRow}
 use Rattle.block_files.specs.declared.meta.Meta.{Meta}
 use Rattle.block_files.specs.Files.{all_texts, references, row_references, texts}
 use Rattle.block_read.specs.declared.block.Block.{Block}

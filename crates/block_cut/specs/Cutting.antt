@@ -14,9 +14,9 @@ use Rattle.head_column.specs.Samples.{Rises}
 use Rattle.head_series.specs.Table.{labels_at}
 use Rattle.head_core.specs.Content.{Content}
 use Rattle.head_core.specs.Heads.{history_at}
-use Rattle.block_index.specs.declared.row.ChunkMeta.{ChunkMeta}
-use Rattle.block_index.specs.declared.row.IndexRow.{IndexRow}
-use Rattle.block_index.specs.Rows.{IsChain}
+use Rattle.index_parts.specs.declared.row.ChunkMeta.{ChunkMeta}
+use Rattle.index_parts.specs.declared.row.IndexRow.{IndexRow}
+use Rattle.index_parts.specs.Rows.{IsChain}
 use Rattle.block_files.specs.declared.tombstones.Tombstone.{Tombstone}
 use Rattle.block_files.specs.Files.{references, texts}
 use Rattle.block_read.specs.declared.rows.BlockRow.{BlockRow}

@@ -2,7 +2,7 @@
 
 ghost use Rattle.std.specs.Prelude.{◌≡◌, ◌↔◌, ◌<◌, ◌^◌, [], false, Err, IfOk, IsTrue, length};
 ghost use Rattle.head_column.specs.Hours.{IsEdge};
-ghost use Rattle.block_index.specs.Rows.{FitsIndex};
+ghost use Rattle.index_parts.specs.Rows.{FitsIndex};
 ghost use Rattle.block_cut.specs.Rows.{IsFull, rows_of};
 ghost use Rattle.block_read.specs.Blocks.{IsBlockOf, files_of, index_rows, samples_of_rows};
 

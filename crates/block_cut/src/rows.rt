@@ -12,7 +12,7 @@ ghost use Rattle.head_core.specs.Heads.{history_at};
 ghost use Rattle.block_cut.specs.Clipping.{clip, runs_in};
 ghost use Rattle.block_cut.specs.Cutting.{IsHistory, in_chunks, row_at};
 ghost use Rattle.block_cut.specs.Rows.{rows_of};
-ghost use Rattle.block_index.specs.Rows.{IsChain};
+ghost use Rattle.index_parts.specs.Rows.{IsChain};
 ghost use Rattle.block_read.specs.Blocks.{IsRowOf, hour_last};
 
 use head_column::{Chunk, Hour, Run};

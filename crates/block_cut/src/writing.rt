@@ -6,7 +6,7 @@ ghost use Rattle.std.specs.Io.Iter.{u64_saturate};
 ghost use Rattle.std.specs.declared.cmp.Ordering.TheVariants.{Less};
 ghost use Rattle.wal_record.specs.Labels.{compare_labels};
 ghost use Rattle.head_column.specs.Hours.{IsEdge};
-ghost use Rattle.block_index.specs.Rows.{FitsChunk, FitsIndex, IsChain};
+ghost use Rattle.index_parts.specs.Rows.{FitsChunk, FitsIndex, IsChain};
 ghost use Rattle.block_files.specs.Files.{AreShort, all_texts, chunk_files};
 ghost use Rattle.block_read.specs.declared.rows.BlockRow.{BlockRow as Row};
 ghost use Rattle.block_read.specs.Blocks.{IsRowOf, block_text, file_limit, files_of, index_rows, meta_of, samples_of_rows, tombstones_of as tombstones_of_runs};

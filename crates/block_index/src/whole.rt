@@ -1,12 +1,12 @@
 //! The public functions, which write and read a whole index.
 
 ghost use Rattle.std.specs.Prelude.{◌≡◌, ◌⊎◌, List, Err, IfOk, IfErr, map};
-ghost use Rattle.block_index.specs.declared.row.IndexRow.{IndexRow as Row};
-ghost use Rattle.block_index.specs.Index.{index_text, series_ids};
-ghost use Rattle.block_index.specs.Rows.{AreRows, FitsIndex, IsIndex};
-ghost use Rattle.block_index.specs.Reading.{Answers, front_of, row_of as row_in};
-ghost use Rattle.block_index.specs.Gives.{nows};
-ghost use Rattle.block_index.specs.Stored.{stored};
+ghost use Rattle.index_parts.specs.declared.row.IndexRow.{IndexRow as Row};
+ghost use Rattle.index_parts.specs.Index.{index_text, series_ids};
+ghost use Rattle.index_parts.specs.Rows.{AreRows, FitsIndex, IsIndex};
+ghost use Rattle.index_parts.specs.Reading.{Answers, front_of, row_of as row_in};
+ghost use Rattle.index_parts.specs.Gives.{nows};
+ghost use Rattle.index_parts.specs.Stored.{stored};
 
 use crate::contents::contents_of;
 use crate::fault::ReadFault;

@@ -8,10 +8,10 @@ use Rattle.std.proofs.lemmas.List.{length-map}
 use Rattle.std.proofs.lemmas.Result.{err_from_is_err_and}
 use Rattle.head_column.specs.declared.chunk.Chunk.{Chunk}
 use Rattle.block_text.specs.declared.fault.WriteFault.TheVariants.{TooLarge}
-use Rattle.block_index.specs.Rows.{AreRows, FitsIndex}
+use Rattle.index_parts.specs.Rows.{AreRows, FitsIndex}
 use Rattle.block_files.specs.Files.{AreShort, all_texts, chunk_files}
 use Rattle.block_files.specs.Tombstones.{tombstones_text}
-use Rattle.block_index.specs.Index.{index_text, series_ids}
+use Rattle.index_parts.specs.Index.{index_text, series_ids}
 use Rattle.block_read.specs.Blocks.{block_text, file_limit, index_rows, samples_of_rows, tombstones_of}
 use Rattle.block_files.specs.Meta.{meta_text}
 use Rattle.block_read.specs.declared.rows.BlockRow.{BlockRow}
