@@ -29,5 +29,4 @@ pub mod RowsAgain
 pub mod Early
 pub mod Chains
 pub mod StoredLaws
-pub mod Last
 pub mod Few

@@ -1,5 +1,6 @@
 -- Elements one after another, each aligned by zeros before it.
-use Rattle.std.specs.Prelude.{ℕ, ◌+◌, ◌-◌, ◌%◌, List, ◌++◌, length, map, take, replicate}
+use Rattle.std.specs.Prelude.{ℕ, ◌+◌, List, ◌++◌, length, map, take, replicate}
+pub use Rattle.block_text.specs.Padding.{padding}
 pub use Rattle.block_text.specs.Sums.{Text, number_at, is_number, sums}
 unfoldable pub use Rattle.block_text.specs.Sums.{sum_text}
 use Rattle.std.specs.List.{fold, range_with_len}
@@ -12,10 +13,6 @@ framed body = big_bytes 4 (length body) ++ body ++ sum_text body
 -- an element: its length as a uvarint, its contents, and their checksum
 abbrev pub counted : Text → Text
 counted body = uvarint (length body) ++ body ++ sum_text body
-
--- how many zeros align the offset n
-abbrev pub padding : ℕ → ℕ → ℕ
-padding align n = (align - n % align) % align
 
 -- a text with an aligned element appended
 abbrev pub put : ℕ → Text → Text → Text

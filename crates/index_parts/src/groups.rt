@@ -14,8 +14,8 @@ ghost use Rattle.index_parts.specs.Rows.{AreSmall, IsSmall};
 ghost use Rattle.index_parts.specs.Sets.{IsAscending, text_cmp};
 
 use crate::ordering::{LentLabel, RowLabel};
-use crate::writer::{put_framed, put_padding, rank_of};
-use block_text::{WriteFault, four_bytes_of};
+use crate::writer::{put_framed, rank_of};
+use block_text::{WriteFault, four_bytes_of, put_padding};
 use hw_bytes::put_be32;
 use std::alloc::{AllocError, Global};
 

@@ -1,4 +1,4 @@
-//! Writing and reading the index of a block (index.md of the public standard).
+//! Writing the index of a block (index.md of the public standard), and the steps of reading one.
 #![tactic(auto)]
 
 mod contents;
@@ -19,13 +19,14 @@ mod steps;
 mod stored;
 mod tables;
 mod toc;
-mod whole;
 mod writer;
+mod writing;
 
 pub use block_text::WriteFault;
 pub use fault::ReadFault;
 pub use laws::few_chunks;
 pub use row::{ChunkMeta, IndexRow};
-pub use whole::{
-    NumberedIndex, NumberedRows, read_index, read_numbered_index, write_index, write_numbered_index,
-};
+pub use rows::{are_rows, rows_of};
+pub use steps::stored_index;
+pub use stored::StoredSeries;
+pub use writing::{NumberedIndex, write_index, write_numbered_index};

@@ -72,8 +72,10 @@ fn row_of(alloc: Global, symbols: &[&[u8]], series: &StoredSeries) -> Result<Ind
     })
 }
 
-// Builds the rows of stored series.
-pub(crate) fn rows_of(
+/// Builds the rows of stored series from the symbols that they refer to. A row has the labels of its series, in their order, and its chunks;
+/// a reference that no symbol has stands for an empty text. If the labels of a series are no label set, `EmptyName` or `NotAscending` is
+/// returned.
+pub fn rows_of(
     alloc: Global,
     symbols: &[&[u8]],
     series: &[StoredSeries],
@@ -187,8 +189,9 @@ fn ascend(rows: &[IndexRow]) -> bool
     true
 }
 
-// Returns whether the rows meet the writer's condition: at least one, each valid, and in the order of their label sets.
-pub(crate) fn are_rows(rows: &[IndexRow]) -> bool
+/// Returns whether the rows meet the writer's condition: at least one, each valid, and in the order of their label sets. A row is valid if
+/// it has chunks, none of which ends before it begins, and each ends before the next begins.
+pub fn are_rows(rows: &[IndexRow]) -> bool
     ensures rows { IsTrue result → AreRows rows.now }
     ensures other { result ≡ false → AreRows rows.now → ⊥ }
 {

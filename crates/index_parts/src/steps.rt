@@ -22,9 +22,11 @@ fn between(bytes: &[u8], from: u64, to: u64) -> &[u8]
     those
 }
 
-// Reads the symbols and the series, and checks the other sections.
+/// Reads the symbols and the stored series of an index, and checks its other sections. The first fault is returned: `BadMagic`,
+/// `BadVersion`, `BadToc`, then `BadSum` or `BadSection` in the order of the sections. The first three do not depend on memory. Whether the
+/// bytes are the index of these series is not checked.
 #[tactic(auto, unfolding(crate::specs::Reading::stored_in))]
-pub(crate) fn stored_index(
+pub fn stored_index(
     alloc: Global,
     bytes: &[u8],
 ) -> Result<(Vec<&[u8]>, Vec<StoredSeries>), ReadFault>

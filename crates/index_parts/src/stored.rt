@@ -14,11 +14,13 @@ use crate::row::ChunkMeta;
 use hw_bytes::Items;
 use std::alloc::Global;
 
-/// A stored series: the references of the names and values of its labels, and its chunks.
+/// A series as an index stores it.
 #[derive(Debug, Drop)]
-pub(crate) struct StoredSeries {
-    pub(crate) labels: Items<(u64, u64)>,
-    pub(crate) chunks: Items<ChunkMeta>,
+pub struct StoredSeries {
+    /// For each label the references of its name and its value: their places among the symbols, from 0.
+    pub labels: Items<(u64, u64)>,
+    /// Its chunks in the order in which they are stored.
+    pub chunks: Items<ChunkMeta>,
 }
 
 // Reads the contents of the symbols.

@@ -1,6 +1,6 @@
 //! Writing elements, and the section of series.
 
-ghost use Rattle.std.specs.Prelude.{◌≡◌, ℕ, ◌<◌, ◌≤◌, ◌++◌, ◌/◌, ◌^◌, ◌-ℤ◌, unsigned_abs, length, map, replicate, OnOk, IfOk, IsOk, Err};
+ghost use Rattle.std.specs.Prelude.{◌≡◌, ℕ, ◌<◌, ◌≤◌, ◌++◌, ◌/◌, ◌^◌, ◌-ℤ◌, unsigned_abs, length, map, OnOk, IfOk, IsOk, Err};
 ghost use Rattle.std.specs.List.{flat_map};
 ghost use Rattle.index_parts.specs.declared.row.IndexRow.{IndexRow};
 ghost use Rattle.index_parts.specs.declared.row.ChunkMeta.{ChunkMeta};
@@ -9,7 +9,7 @@ ghost use Rattle.index_parts.specs.Gives.{nows};
 ghost use Rattle.index_parts.specs.Rows.{AreSmall};
 ghost use Rattle.index_parts.specs.Sets.{IsAscending, rank, text_cmp};
 ghost use Rattle.std.specs.Ordering.{is_lt};
-ghost use Rattle.index_parts.specs.Layout.{padding, framed as framed_text, counted as counted_text, put_all, places};
+ghost use Rattle.index_parts.specs.Layout.{framed as framed_text, counted as counted_text, put_all, places};
 ghost use Rattle.index_parts.specs.Index.{
   next_chunk_text,
   first_chunk_text,
@@ -21,7 +21,7 @@ ghost use Rattle.index_parts.specs.Index.{
 };
 
 use crate::row::{ChunkMeta, IndexRow};
-use block_text::{WriteFault, four_bytes_of, put_sum};
+use block_text::{WriteFault, four_bytes_of, put_padding, put_sum};
 use hw_bytes::{put_be32, put_uvarint, put_varint};
 use std::alloc::{AllocError, Global};
 use wal_record::LabelSet;
@@ -50,25 +50,6 @@ fn put_counted(out: &mut Vec<u8>, body: &[u8]) -> Result<(), WriteFault>
     out.extend_from_slice(body)?;
     put_sum(out, body)?;
     Ok(())
-}
-
-// Appends zeros.
-fn put_zeros(out: &mut Vec<u8>, count: usize) -> Result<(), AllocError>
-    ensures { OnOk result (out.new.items ≡ out.old.items ++ replicate count 0) }
-{
-    for _ in 0..count {
-        out.push(0)?;
-    }
-    Ok(())
-}
-
-// Appends the zeros that align the next element.
-pub(crate) fn put_padding(out: &mut Vec<u8>, align: usize) -> Result<(), AllocError>
-    requires { 0 < align }
-    ensures { OnOk result (out.new.items ≡ out.old.items ++ replicate (padding align (length out.old.items)) 0) }
-{
-    let count = (align - out.len() % align) % align;
-    put_zeros(out, count)
 }
 
 // Returns whether the first text is less than the other.

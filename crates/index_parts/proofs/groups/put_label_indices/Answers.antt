@@ -46,17 +46,17 @@ loop-start-preserved c =
     let parts = name_parts labels start m c.element_at-first.result shape up long (λ ms. framed (index_body table ms)) in
     let sizes = name_parts labels start m c.element_at-first.result shape up long (λ ms. length (index_body table ms)) in
     let values : map (λ (l : LentLabel). l.value.now) c.split_at-in-loop-start.result.0.now ≡ map (λ (p : Label). p.value) (map label_of (take m (drop start labels))) = ap (map (λ (l : LentLabel). l.value.now)) run ∙ values_lent (take m (drop start labels)) in
-    let done : c.put_label_index.new.out.items ≡ c.put_padding.new.out.items ++ framed (index_body table (map label_of (take m (drop start labels)))) =
-    (c.in_ok-put_label_index.ensures.text ∙ ap (λ vs. c.put_padding.new.out.items ++ framed (label_index_body table vs)) values) in
-    let counted : c.len.result ≡ length c.put_padding.new.out.items = search rules in
+    let done : c.put_label_index.new.out.items ≡ c.put_padding.new.bytes.items ++ framed (index_body table (map label_of (take m (drop start labels)))) =
+    (c.in_ok-put_label_index.ensures.text ∙ ap (λ vs. c.put_padding.new.bytes.items ++ framed (label_index_body table vs)) values) in
+    let counted : c.len.result ≡ length c.put_padding.new.bytes.items = search rules in
     let pushed = ap (map name_place_of) c.in_ok-push.ensures.items ∙ map-append name_place_of c.loop-start.named.items _ ∙ ap (λ n. map name_place_of c.loop-start.named.items ++ (c.element_at-first.result.name.now, n) ∷ []) counted in
     record {
       within = omega (arith, c.split_at-in-loop-start.ensures.back_len, c.split_at.ensures.back_len, c.loop-start.invariant.within, c.loop-start-test.true);
       text = ap (λ d. put_all 4 c.put_label_index.new.out.items (label_indices_of table (map label_of d))) (sym next)
-          ∙ put_step 4 c.loop-start.out.items c.put_padding.new.out.items c.put_label_index.new.out.items _ _ _ parts c.in_ok-put_padding.ensures done ∙ c.loop-start.invariant.text;
+          ∙ put_step 4 c.loop-start.out.items c.put_padding.new.bytes.items c.put_label_index.new.out.items _ _ _ parts c.in_ok-put_padding.ensures done ∙ c.loop-start.invariant.text;
       named = ap (λ ns. ns ++ zip (names_in (map label_of (drop (start + length c.split_at-in-loop-start.result.0.now) labels))) (places 4 c.put_label_index.new.out.items (label_indices_of table (map label_of (drop (start + length c.split_at-in-loop-start.result.0.now) labels))))) pushed
-          ∙ ap (λ d. (map name_place_of c.loop-start.named.items ++ (c.element_at-first.result.name.now, length c.put_padding.new.out.items) ∷ []) ++ zip (names_in (map label_of d)) (places 4 c.put_label_index.new.out.items (label_indices_of table (map label_of d)))) (sym next)
-          ∙ entries_step 4 c.loop-start.out.items c.put_padding.new.out.items c.put_label_index.new.out.items (map name_place_of c.loop-start.named.items) c.element_at-first.result.name.now _ _ _ _ _ names parts c.in_ok-put_padding.ensures done
+          ∙ ap (λ d. (map name_place_of c.loop-start.named.items ++ (c.element_at-first.result.name.now, length c.put_padding.new.bytes.items) ∷ []) ++ zip (names_in (map label_of d)) (places 4 c.put_label_index.new.out.items (label_indices_of table (map label_of d)))) (sym next)
+          ∙ entries_step 4 c.loop-start.out.items c.put_padding.new.bytes.items c.put_label_index.new.out.items (map name_place_of c.loop-start.named.items) c.element_at-first.result.name.now _ _ _ _ _ names parts c.in_ok-put_padding.ensures done
           ∙ c.loop-start.invariant.named;
       rises = subst (λ d. KeysRise name_of text_cmp (map label_of d)) next (name_rises labels start m c.element_at-first.result shape up long);
       small = λ h. c.loop-start.invariant.small (with_first IsSmall _ _ _ sizes (subst (λ vs. length (label_index_body table vs) < 2 ^ 32) values (c.in_ok-put_label_index.ensures.small refl))

@@ -44,17 +44,17 @@ loop-start-preserved c =
     let parts = label_parts labels start m c.element_at-first.result shape up long (λ ms. framed (postings_body (ids_at ids ms))) in
     let sizes = label_parts labels start m c.element_at-first.result shape up long (λ ms. length (postings_body (ids_at ids ms))) in
     let gathered : c.as_slice.result.now ≡ ids_at ids (map row_label_of (take m (drop start labels))) = c.as_slice.ensures.value ∙ c.in_ok-gather_ids.ensures ∙ ap (λ ls. ids_at ids (map row_label_of ls)) run in
-    let done : c.put_ids.new.out.items ≡ c.put_padding.new.out.items ++ framed (postings_body (ids_at ids (map row_label_of (take m (drop start labels))))) =
-    (c.in_ok-put_ids.ensures.text ∙ ap (λ vs. c.put_padding.new.out.items ++ framed (postings_body vs)) gathered) in
-    let counted : c.len.result ≡ length c.put_padding.new.out.items = search rules in
+    let done : c.put_ids.new.out.items ≡ c.put_padding.new.bytes.items ++ framed (postings_body (ids_at ids (map row_label_of (take m (drop start labels))))) =
+    (c.in_ok-put_ids.ensures.text ∙ ap (λ vs. c.put_padding.new.bytes.items ++ framed (postings_body vs)) gathered) in
+    let counted : c.len.result ≡ length c.put_padding.new.bytes.items = search rules in
     let pushed = ap (map label_place_of) c.in_ok-push.ensures.items ∙ map-append label_place_of c.loop-start.listed.items _ ∙ ap (λ n. map label_place_of c.loop-start.listed.items ++ (label_of c.element_at-first.result.label, n) ∷ []) counted in
     record {
       within = omega (arith, c.split_at-in-loop-start.ensures.back_len, c.split_at.ensures.back_len, c.loop-start.invariant.within, c.loop-start-test.true);
       text = ap (λ d. put_all 4 c.put_ids.new.out.items (lists_of ids (map row_label_of d))) (sym next)
-          ∙ put_step 4 c.loop-start.out.items c.put_padding.new.out.items c.put_ids.new.out.items _ _ _ parts c.in_ok-put_padding.ensures done ∙ c.loop-start.invariant.text;
+          ∙ put_step 4 c.loop-start.out.items c.put_padding.new.bytes.items c.put_ids.new.out.items _ _ _ parts c.in_ok-put_padding.ensures done ∙ c.loop-start.invariant.text;
       listed = ap (λ ns. ns ++ zip (labels_in (map row_label_of (drop (start + length c.split_at-in-loop-start.result.0.now) labels))) (places 4 c.put_ids.new.out.items (lists_of ids (map row_label_of (drop (start + length c.split_at-in-loop-start.result.0.now) labels))))) pushed
-          ∙ ap (λ d. (map label_place_of c.loop-start.listed.items ++ (label_of c.element_at-first.result.label, length c.put_padding.new.out.items) ∷ []) ++ zip (labels_in (map row_label_of d)) (places 4 c.put_ids.new.out.items (lists_of ids (map row_label_of d)))) (sym next)
-          ∙ entries_step 4 c.loop-start.out.items c.put_padding.new.out.items c.put_ids.new.out.items (map label_place_of c.loop-start.listed.items) (label_of c.element_at-first.result.label) _ _ _ _ _ names parts c.in_ok-put_padding.ensures done
+          ∙ ap (λ d. (map label_place_of c.loop-start.listed.items ++ (label_of c.element_at-first.result.label, length c.put_padding.new.bytes.items) ∷ []) ++ zip (labels_in (map row_label_of d)) (places 4 c.put_ids.new.out.items (lists_of ids (map row_label_of d)))) (sym next)
+          ∙ entries_step 4 c.loop-start.out.items c.put_padding.new.bytes.items c.put_ids.new.out.items (map label_place_of c.loop-start.listed.items) (label_of c.element_at-first.result.label) _ _ _ _ _ names parts c.in_ok-put_padding.ensures done
           ∙ c.loop-start.invariant.listed;
       rises = subst (λ d. KeysRise label_in compare_label (map row_label_of d)) next (label_rises labels start m c.element_at-first.result shape up long);
       small = λ h. c.loop-start.invariant.small (with_first IsSmall _ _ _ sizes (subst (λ vs. length (postings_body vs) < 2 ^ 32) gathered (c.in_ok-put_ids.ensures.small refl))
