@@ -3,7 +3,7 @@ use Rattle.std.proofs.lemmas.Int.{ints}
 use Rattle.head_column.specs.Hours.{hour_start}
 use Rattle.head_column.proofs.HourLaws.{above_least, below_greatest, inside}
 use Rattle.block_read.specs.Blocks.{hour_last}
-use Rattle.block_cut.proofs.rows.last_of.Goals as goal
+use Rattle.hour_rows.proofs.rows.last_of.Goals as goal
 
 pub returns : goal.returns
 returns c =

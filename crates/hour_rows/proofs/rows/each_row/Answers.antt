@@ -5,9 +5,9 @@ use Rattle.rayon.specs.Numbers.{nat_range}
 use Rattle.rayon.proofs.ListFacts.{IfOk-then}
 use Rattle.rayon.proofs.ToStd.{nat_range-All}
 use Rattle.head_core.specs.Heads.{history_at}
-use Rattle.block_cut.specs.Cutting.{IsHistory, row_at}
-use Rattle.block_cut.proofs.Gathered.{all_held, at_ok, gathered, matched}
-use Rattle.block_cut.proofs.rows.each_row.Goals as goal
+use Rattle.hour_rows.specs.Chunked.{IsHistory, row_at}
+use Rattle.hour_rows.proofs.Gathered.{all_held, at_ok, gathered, matched}
+use Rattle.hour_rows.proofs.rows.each_row.Goals as goal
 
 pub collect-requires-clause-ready : goal.collect-requires-clause-ready
 collect-requires-clause-ready g c κs within =

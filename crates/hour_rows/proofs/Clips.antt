@@ -11,7 +11,7 @@ use Rattle.head_column.specs.declared.items.Run.{Run}
 use Rattle.head_column.specs.Hours.{hour_start}
 use Rattle.head_column.specs.Runs.{AreApart, BeginPast}
 use Rattle.block_read.specs.Blocks.{IsWithin, hour_last}
-use Rattle.block_cut.specs.Clipping.{clip, runs_in}
+use Rattle.hour_rows.specs.Clipping.{clip, runs_in}
 
 abbrev is_some_run : Run → Bool
 is_some_run r = int_le r.min_time r.max_time

@@ -8,8 +8,8 @@ use Rattle.head_column.specs.Histories.{History}
 use Rattle.head_core.specs.Content.{Content}
 use Rattle.block_read.specs.declared.rows.BlockRow.{BlockRow}
 use Rattle.block_read.specs.Blocks.{tombstones_of}
-use Rattle.block_cut.specs.Clipping.{runs_in, samples_in}
-use Rattle.block_cut.specs.Rows.{rows_of}
+use Rattle.hour_rows.specs.Clipping.{runs_in, samples_in}
+use Rattle.hour_rows.specs.Rows.{rows_of}
 
 abbrev job : List ℕ → Labels
 job name = label (codes "job") name ∷ []

@@ -27,12 +27,12 @@ use Rattle.index_parts.specs.Sets.{ascending}
 use Rattle.index_parts.proofs.Ranks.{Has, IsAscending, ascending-is, ascending-of}
 use Rattle.block_read.specs.declared.rows.BlockRow.{BlockRow}
 use Rattle.block_read.specs.Blocks.{IsRowOf}
-use Rattle.block_cut.specs.declared.rows.CutRow.{CutRow}
-use Rattle.block_cut.specs.Clipping.{samples_in, runs_in}
-use Rattle.block_cut.specs.Cutting.{IsHistory, cut_row, if_chunks, in_chunks, row_at}
-use Rattle.block_cut.specs.Rows.{has_samples, row_of, rows_of}
-use Rattle.block_cut.proofs.Clips.{AreApart-runs_in, IsWithin-runs_in}
-use Rattle.block_cut.proofs.Orders.{AreApart, Differs, by_key, by_key_order, kept_ascends, sorted_is}
+use Rattle.hour_rows.specs.declared.rows.CutRow.{CutRow}
+use Rattle.hour_rows.specs.Clipping.{samples_in, runs_in}
+use Rattle.hour_rows.specs.Chunked.{IsHistory, cut_row, if_chunks, in_chunks, row_at}
+use Rattle.hour_rows.specs.Rows.{has_samples, row_of, rows_of}
+use Rattle.hour_rows.proofs.Clips.{AreApart-runs_in, IsWithin-runs_in}
+use Rattle.hour_rows.proofs.Orders.{AreApart, Differs, by_key, by_key_order, kept_ascends, sorted_is}
 
 -- ---- samples of an hour rise
 

@@ -1,17 +1,15 @@
 //! The rows of an hour of a head.
 
-ghost use Rattle.std.specs.Prelude.{◌≡◌, ◌<◌, ◌↔◌, ℤ, false, length, map, All, IfOk, OnOk, IsTrue};
+ghost use Rattle.std.specs.Prelude.{◌≡◌, ◌<◌, ◌+ℤ◌, pos, false, length, map, All, IfOk, OnOk};
 ghost use Rattle.std.specs.List.{filter_map, range_with_len};
 ghost use Rattle.std.specs.List.Sorted.{IsPermutation, IsSorted};
 ghost use Rattle.std.specs.declared.cmp.Ordering.TheVariants.{Less};
 ghost use Rattle.wal_record.specs.Labels.{compare_labels};
 ghost use Rattle.head_column.specs.Hours.{IsEdge, hour_start};
-ghost use Rattle.head_column.specs.Runs.{AreApart};
-ghost use Rattle.head_column.specs.Samples.{Rises};
 ghost use Rattle.head_core.specs.Heads.{history_at};
-ghost use Rattle.block_cut.specs.Clipping.{clip, runs_in};
-ghost use Rattle.block_cut.specs.Cutting.{IsHistory, in_chunks, row_at};
-ghost use Rattle.block_cut.specs.Rows.{rows_of};
+ghost use Rattle.hour_rows.specs.Clipping.{clip, runs_in};
+ghost use Rattle.hour_rows.specs.Chunked.{IsHistory, in_chunks, row_at};
+ghost use Rattle.hour_rows.specs.Rows.{rows_of};
 ghost use Rattle.index_parts.specs.Rows.{IsChain};
 ghost use Rattle.block_read.specs.Blocks.{IsRowOf, hour_last};
 
@@ -29,10 +27,12 @@ const HOUR_LENGTH: i64 = 3_600_000;
 
 /// A series in an hour, with its samples in chunks.
 #[derive(Debug)]
-pub(crate) struct CutRow {
-    pub(crate) labels: LabelSet,
-    pub(crate) chunks: Items<Chunk>,
-    pub(crate) hidden: Items<Run>,
+pub struct CutRow {
+    pub labels: LabelSet,
+    /// Its samples in the hour, in the order of their times.
+    pub chunks: Items<Chunk>,
+    /// Its hidden runs, clipped to the hour. Times are in milliseconds, and both ends are included.
+    pub hidden: Items<Run>,
 }
 
 // Written by hand instead of derived: the proof of a function that drops a row then has one call instead of a copy of this body.
@@ -48,7 +48,7 @@ impl Drop for CutRow {
 
 impl CutRow {
     /// Returns its labels, its chunks and its hidden runs.
-    pub(crate) fn into_parts(self) -> (LabelSet, Items<Chunk>, Items<Run>)
+    pub fn into_parts(self) -> (LabelSet, Items<Chunk>, Items<Run>)
         ensures labels { result.0 ≡ self.labels }
         ensures chunks { result.1 ≡ self.chunks }
         ensures hidden { result.2 ≡ self.hidden }
@@ -63,7 +63,7 @@ impl CutRow {
 }
 
 /// Returns the first millisecond of an hour that is no edge.
-pub(crate) fn first_of(hour: Hour) -> i64
+pub fn first_of(hour: Hour) -> i64
     requires { IsEdge hour → ⊥ }
     ensures { result ≡ hour_start hour }
 {
@@ -71,11 +71,19 @@ pub(crate) fn first_of(hour: Hour) -> i64
 }
 
 /// Returns the last millisecond of an hour that is no edge.
-pub(crate) fn last_of(hour: Hour) -> i64
+pub fn last_of(hour: Hour) -> i64
     requires { IsEdge hour → ⊥ }
     ensures { result ≡ hour_last hour }
 {
     first_of(hour) + (HOUR_LENGTH - 1)
+}
+
+/// Returns the end of an hour that is no edge: the millisecond after its last one.
+pub fn end_of(hour: Hour) -> i64
+    requires { IsEdge hour → ⊥ }
+    ensures { result ≡ hour_start (hour +ℤ pos 1) }
+{
+    last_of(hour) + 1
 }
 
 // Clips a run to an hour that is no edge. The result can be empty.
@@ -166,8 +174,9 @@ fn sort_rows(rows: &mut Vec<CutRow>) -> Result<(), AllocError>
     rows.sort_by(|a, b| a.labels.compare(&b.labels))
 }
 
-/// Returns the rows of an hour that is no edge: one for each series with an accepted sample in the hour, in the order of label sets.
-pub(crate) fn rows_in(
+/// Returns the rows of an hour that is no edge: one for each series with an accepted sample in the hour, in the order of label sets. The
+/// head must not have failed. Works in as many threads as `rt` has processors.
+pub fn rows_in(
     rt: &(impl Threads + Sync),
     alloc: Global,
     head: &Head,

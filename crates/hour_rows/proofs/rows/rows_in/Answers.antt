@@ -2,10 +2,10 @@ use Rattle.std.proofs.Common.{ℕ, List, Option, All, map, ap, subst, ◌∙◌}
 use Rattle.std.specs.List.{filter_map, range_with_len}
 use Rattle.std.specs.List.Sorted.{IsPermutation}
 use Rattle.head_core.specs.Heads.{history_at}
-use Rattle.block_cut.specs.declared.rows.CutRow.{CutRow}
-use Rattle.block_cut.specs.Cutting.{IsHistory, row_at}
-use Rattle.block_cut.proofs.Picked.{kept_by_slot, rows_are_rows, rows_ascend, sorted_rows}
-use Rattle.block_cut.proofs.rows.rows_in.Goals as goal
+use Rattle.hour_rows.specs.declared.rows.CutRow.{CutRow}
+use Rattle.hour_rows.specs.Chunked.{IsHistory, row_at}
+use Rattle.hour_rows.proofs.Picked.{kept_by_slot, rows_are_rows, rows_ascend, sorted_rows}
+use Rattle.hour_rows.proofs.rows.rows_in.Goals as goal
 
 pub returns-clause-rows : goal.returns-clause-rows
 returns-clause-rows g c =

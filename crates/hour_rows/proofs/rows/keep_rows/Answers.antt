@@ -5,8 +5,8 @@ use Rattle.std.specs.Option.{option_to_list}
 use Rattle.std.proofs.lemmas.Iterator.{items_from_collect}
 use Rattle.std.proofs.lemmas.Iterator.Consumers.{YieldsList-at}
 use Rattle.std.proofs.lemmas.Iterator.Adapters.{YieldsList-from_flatten, YieldsList-from_once, YieldsList-from_vec}
-use Rattle.block_cut.specs.declared.rows.CutRow.{CutRow}
-use Rattle.block_cut.proofs.rows.keep_rows.Goals as goal
+use Rattle.hour_rows.specs.declared.rows.CutRow.{CutRow}
+use Rattle.hour_rows.proofs.rows.keep_rows.Goals as goal
 
 flattened : {X : Type 0} (xs : List (Option X)) → flat_map option_to_list xs ≡ filter_map (λ x. x) xs
 flattened [] = refl

@@ -1,8 +1,8 @@
 use Rattle.std.proofs.Common.{arith}
 use Rattle.std.proofs.lemmas.Int.{ints}
-use Rattle.block_cut.proofs.Clips.{runs_in-kept, runs_in-left_out}
-use Rattle.block_cut.proofs.rows.clip_runs.Goals as goal
-use Rattle.block_cut.proofs.rows.clip_runs.Goals.{then-part+in_ok-push, else-part}
+use Rattle.hour_rows.proofs.Clips.{runs_in-kept, runs_in-left_out}
+use Rattle.hour_rows.proofs.rows.clip_runs.Goals as goal
+use Rattle.hour_rows.proofs.rows.clip_runs.Goals.{then-part+in_ok-push, else-part}
 
 pub loop-run-preserved : goal.loop-run-preserved
 loop-run-preserved c = elim c.if-part.branch [

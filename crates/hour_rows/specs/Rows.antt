@@ -1,13 +1,12 @@
 -- The rows of an hour.
-use Rattle.std.specs.Prelude.{◌≡◌, ℤ, ◌<ℤ◌, Bool, not, List, map, filter, length, Some, ◌==◌}
+use Rattle.std.specs.Prelude.{ℤ, Bool, not, List, map, filter, length, ◌==◌}
 use Rattle.std.specs.List.{zip}
 use Rattle.wal_record.specs.Labels.{Labels, compare_labels}
 use Rattle.head_column.specs.Histories.{History}
 use Rattle.index_parts.specs.Sets.{ascending}
 use Rattle.head_core.specs.Content.{Content}
 use Rattle.block_read.specs.declared.rows.BlockRow.{BlockRow}
-use Rattle.block_read.specs.Blocks.{hour_last}
-use Rattle.block_cut.specs.Clipping.{samples_in, runs_in}
+use Rattle.hour_rows.specs.Clipping.{samples_in, runs_in}
 
 -- the row of a series; it can have no samples
 abbrev pub row_of : ℤ → Labels × History → BlockRow
@@ -21,7 +20,3 @@ has_samples row = not (length row.samples == 0)
 -- and its hidden runs clipped to the hour.
 unfoldable pub rows_of : ℤ → Content → List BlockRow
 rows_of k c = filter has_samples (map (row_of k) (ascending (λ (a b : Labels × History). compare_labels a.0 b.0) (zip c.table.series c.histories)))
-
--- An hour is full if some accepted sample has a time at or past its end.
-abbrev pub IsFull : ℤ → Content → Type 0
-IsFull k c = (t : ℤ) × (c.max_time ≡ Some t) × (hour_last k <ℤ t)
