@@ -17,7 +17,7 @@ ghost use Rattle.block_text.specs.Sums.{Text};
 ghost use Rattle.block_read.specs.declared.block.Block.{Block as Parts};
 ghost use Rattle.block_read.specs.Blocks.{IsBlockOf};
 ghost use Rattle.block_cut.specs.Logs.{IsBlockOfLog};
-ghost use Rattle.block_cut.specs.Rows.{rows_of};
+ghost use Rattle.hour_rows.specs.Rows.{rows_of};
 
 use block_cut::one_block;
 use head_core::{checkpoint, one_content};

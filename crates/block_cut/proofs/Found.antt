@@ -20,8 +20,7 @@ use Rattle.head_column.proofs.HourLaws.{one_hour}
 use Rattle.head_core.specs.Content.{Content}
 use Rattle.head_core.specs.Heads.{history_at}
 use Rattle.block_cut.specs.Cutting.{IsRangeBelow, IsRangeIn}
-use Rattle.block_cut.specs.Ranges.{Ascends, IsRange}
-use Rattle.block_cut.specs.Rows.{IsFull}
+use Rattle.block_cut.specs.Ranges.{Ascends, IsFull, IsRange}
 
 -- ---- one hour more
 

@@ -10,7 +10,7 @@ use Rattle.head_column.specs.declared.chunk.Chunk.{Chunk}
 use Rattle.head_column.specs.Chunks.{AreFull, chunk_of, chunk_samples, chunks_of, first_time, last_time, parts}
 use Rattle.head_column.specs.Samples.{Rises}
 use Rattle.head_column.proofs.Parts.{parts_are}
-use Rattle.block_index.specs.Rows.{IsChain}
+use Rattle.index_parts.specs.Rows.{IsChain}
 
 abbrev joined : List (List Sample) → List Sample
 joined ps = flat_map (λ (p : List Sample). p) ps

@@ -1,8 +1,6 @@
 -- The rows of a block's index, and its counts.
-use Rattle.std.proofs.Common.{Bool, true, false, Vec, Global, vec_len, of_z, to_z, ◌≡◌, ℕ, suc, ◌+◌, ◌<◌, ◌^◌, List, [], ◌∷◌, length, map, refl, sym, ap, subst, ◌∙◌, arith, All}
-use Rattle.std.specs.Prelude.{ℤ, pos, ◌+ℤ◌, ◌==◌, ◌≤ℤ◌, ◌<ℤ◌}
-use Rattle.std.specs.Int.{w64}
-use Rattle.std.proofs.lemmas.Int.{ints}
+use Rattle.std.proofs.Common.{Bool, true, false, Vec, Global, vec_len, ◌≡◌, ℕ, suc, ◌+◌, ◌<◌, ◌^◌, List, [], ◌∷◌, length, map, refl, sym, ap, subst, ◌∙◌, arith, All}
+use Rattle.std.specs.Prelude.{ℤ, ◌==◌, ◌≤ℤ◌, ◌<ℤ◌}
 use Rattle.std.specs.Io.Iter.{u64_saturate}
 use Rattle.std.specs.List.{AllByRecursion, AllZip, flat_map, sum_by, zip}
 use Rattle.std.specs.declared.cmp.Ordering.TheVariants.{Less}
@@ -15,25 +13,24 @@ use Rattle.head_column.specs.declared.items.Run.{Run}
 use Rattle.head_column.specs.declared.items.Sample.{Sample}
 use Rattle.head_column.specs.declared.chunk.Chunk.{Chunk}
 use Rattle.head_column.specs.Chunks.{chunks_of}
-use Rattle.head_column.specs.Hours.{IsEdge, hour_start}
-use Rattle.head_column.proofs.HourLaws.{above_least, below_greatest, inside}
 use Rattle.block_text.specs.declared.fault.WriteFault.{WriteFault}
 use Rattle.block_text.specs.declared.fault.WriteFault.TheVariants.{TooLarge, Memory}
 use Rattle.block_text.specs.Sums.{Text}
-use Rattle.block_index.specs.declared.row.ChunkMeta.{ChunkMeta}
-use Rattle.block_index.specs.declared.row.IndexRow.{IndexRow}
-use Rattle.block_index.specs.Rows.{AreRows, FitsChunk, FitsIndex, IsChain, IsRow}
+use Rattle.index_parts.specs.declared.row.ChunkMeta.{ChunkMeta}
+use Rattle.index_parts.specs.declared.row.IndexRow.{IndexRow}
+use Rattle.index_parts.specs.Rows.{AreRows, FitsChunk, FitsIndex, IsChain, IsRow}
 use Rattle.block_files.specs.declared.meta.Meta.{Meta}
 use Rattle.block_files.specs.Files.{all_texts, references, row_references, texts}
 use Rattle.block_read.specs.declared.block.Block.{Block}
 use Rattle.block_read.specs.declared.rows.BlockRow.{BlockRow}
-use Rattle.block_read.specs.Blocks.{IsRowOf, chunks_of_rows, file_limit, hour_last, index_rows, meta_of, metas_of, samples_of_rows}
+use Rattle.block_read.specs.Blocks.{IsRowOf, chunks_of_rows, file_limit, index_rows, meta_of, metas_of, samples_of_rows}
 use Rattle.block_read.proofs.Assembled.{flat_samples}
 use Rattle.block_read.proofs.Few.{are_few}
 use Rattle.block_read.proofs.Named.{index_chunks}
 use Rattle.block_cut.specs.declared.fault.CutFault.TheVariants as cut
-use Rattle.block_cut.specs.declared.rows.CutRow.{CutRow}
-use Rattle.block_cut.specs.Cutting.{chunk_count, in_chunks, index_rows_of, metas_in, named, sample_count}
+use Rattle.hour_rows.specs.declared.rows.CutRow.{CutRow}
+use Rattle.hour_rows.specs.Chunked.{in_chunks}
+use Rattle.block_cut.specs.Cutting.{chunk_count, index_rows_of, metas_in, named, sample_count}
 use Rattle.block_cut.specs.Faults.{cut_fault}
 use Rattle.block_cut.proofs.Spans.{chunks-apart, chunks-count, chunks-forward}
 
@@ -182,14 +179,6 @@ meta_by ulid first end samples series chunks = record { ulid = ulid; min_time = 
 pub same_meta : (ulid : Text) (a b c d : ℤ) (l m n o p q : ℕ) → a ≡ b → c ≡ d → l ≡ m → n ≡ o → p ≡ q → meta_by ulid a c l n p ≡ meta_by ulid b d m o q
 same_meta ulid a b c d l m n o p q e f g h i =
     ap (λ (x : ℤ). meta_by ulid x c l n p) e ∙ ap (λ (x : ℤ). meta_by ulid b x l n p) f ∙ ap (λ (x : ℕ). meta_by ulid b d x n p) g ∙ ap (λ (x : ℕ). meta_by ulid b d m x p) h ∙ ap (λ (x : ℕ). meta_by ulid b d m o x) i
-
--- the time past the last one, as the code adds it
-pub past_last : (k t : ℤ) → (IsEdge k → ⊥) → t ≡ hour_last k → to_z w64 (of_z w64 (to_z w64 (of_z w64 t) +ℤ pos 1)) ≡ hour_start (k +ℤ pos 1)
-past_last k t whole e =
-    let fits = inside k whole in
-    let low = above_least (hour_start k) fits.0 in
-    let high = below_greatest (hour_last k) fits.1 in
-    omega (arith, ints, low, high, e)
 
 -- ---- the rows that code has of the index, from what its calls gave
 

@@ -1,5 +1,5 @@
 -- Words of private functions and of proofs: the steps from a head to a block.
-use Rattle.std.specs.Prelude.{◌≡◌, ◌<◌, ◌==◌, ℕ, ℤ, List, Option, None, Some, All, Contains, IsTrue, length, map, if◌then◌else◌}
+use Rattle.std.specs.Prelude.{◌≡◌, ◌<◌, ℕ, ℤ, List, All, Contains, IsTrue, length, map}
 use Rattle.std.specs.List.{zip, sum_by}
 use Rattle.std.specs.declared.cmp.Ordering.TheVariants.{Less}
 use Rattle.wal_record.specs.Labels.{Labels, compare_labels}
@@ -7,27 +7,18 @@ use Rattle.head_column.specs.declared.chunk.Chunk.{Chunk}
 use Rattle.head_column.specs.declared.items.Run.{Run}
 use Rattle.head_column.specs.declared.items.Sample.{Sample}
 use Rattle.head_column.specs.Hours.{IsEdge, is_in_hour}
-use Rattle.head_column.specs.Chunks.{IsFit, chunks_of}
-use Rattle.head_column.specs.Histories.{History}
-use Rattle.head_column.specs.Runs.{AreApart}
-use Rattle.head_column.specs.Samples.{Rises}
-use Rattle.head_series.specs.Table.{labels_at}
 use Rattle.head_core.specs.Content.{Content}
 use Rattle.head_core.specs.Heads.{history_at}
-use Rattle.block_index.specs.declared.row.ChunkMeta.{ChunkMeta}
-use Rattle.block_index.specs.declared.row.IndexRow.{IndexRow}
-use Rattle.block_index.specs.Rows.{IsChain}
+use Rattle.index_parts.specs.declared.row.ChunkMeta.{ChunkMeta}
+use Rattle.index_parts.specs.declared.row.IndexRow.{IndexRow}
+use Rattle.index_parts.specs.Rows.{IsChain}
 use Rattle.block_files.specs.declared.tombstones.Tombstone.{Tombstone}
 use Rattle.block_files.specs.Files.{references, texts}
 use Rattle.block_read.specs.declared.rows.BlockRow.{BlockRow}
 use Rattle.block_read.specs.Blocks.{IsRowOf, file_limit, meta_of}
-use Rattle.block_cut.specs.declared.rows.CutRow.{CutRow}
-use Rattle.block_cut.specs.Clipping.{samples_in, runs_in}
-use Rattle.block_cut.specs.Rows.{IsFull}
-
--- the row with its samples in chunks
-abbrev pub in_chunks : BlockRow → CutRow
-in_chunks row = record { labels = row.labels; chunks = chunks_of row.samples; hidden = row.hidden }
+use Rattle.hour_rows.specs.declared.rows.CutRow.{CutRow}
+use Rattle.hour_rows.specs.Chunked.{in_chunks}
+use Rattle.block_cut.specs.Ranges.{IsFull}
 
 -- These are rows of the hour with their samples in chunks: at least one, in the order of label sets.
 pub record AreCutRows (k : ℤ) (rows : List CutRow) : Type 0 where
@@ -36,28 +27,6 @@ pub record AreCutRows (k : ℤ) (rows : List CutRow) : Type 0 where
   pub some : 0 < length those
   pub each : All (IsRowOf k) those
   pub ascending : IsChain (λ (a b : BlockRow). compare_labels a.labels b.labels ≡ Less) those
-
--- the row of a series with its samples in chunks; it can have none
-abbrev pub cut_row : ℤ → Labels × History → CutRow
-cut_row k series = record { labels = series.0; chunks = chunks_of (samples_in k series.1.samples); hidden = runs_in k series.1.hidden }
-
--- the row, if it has chunks
-abbrev pub if_chunks : CutRow → Option CutRow
-if_chunks row = if length row.chunks == 0 then None else Some row
-
--- the series in a slot
-abbrev pub series_at : Content → ℕ → Labels × History
-series_at c slot = (labels_at c.table slot, history_at c slot)
-
--- the row of the series in a slot, if it has chunks
-abbrev pub row_at : ℤ → Content → ℕ → Option CutRow
-row_at k c slot = if_chunks (cut_row k (series_at c slot))
-
--- The history of every series has samples that rise in time and runs with gaps between them.
-pub record IsHistory (h : History) : Type 0 where
-  pub rises : Rises h.samples
-  pub fit : All IsFit h.samples
-  pub apart : AreApart h.hidden
 
 -- the entries of chunks in the index, with these references
 abbrev pub named : List Chunk × List ℕ → List ChunkMeta

@@ -8,7 +8,7 @@ use Rattle.head_core.specs.Taken.{taken_of}
 use Rattle.head_core.specs.Content.{Content, IsContentOf}
 use Rattle.block_text.specs.Sums.{Text}
 use Rattle.block_read.specs.declared.block.Block.{Block}
-use Rattle.block_cut.specs.Rows.{rows_of}
+use Rattle.hour_rows.specs.Rows.{rows_of}
 use Rattle.block_read.specs.Blocks.{IsBlockOf}
 
 -- This is the block of an hour of a log, with this name: that of the content of the records of the log up to its first damage, read with the

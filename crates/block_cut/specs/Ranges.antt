@@ -1,10 +1,14 @@
 -- The hours that can be cut.
-use Rattle.std.specs.Prelude.{ℤ, ◌<ℤ◌, List, [], ◌∷◌, Contains, IsTrue}
+use Rattle.std.specs.Prelude.{◌≡◌, ℤ, ◌<ℤ◌, List, [], ◌∷◌, Some, Contains, IsTrue}
 use Rattle.head_column.specs.declared.items.Sample.{Sample}
 use Rattle.head_column.specs.Histories.{History}
 use Rattle.head_column.specs.Hours.{IsEdge, is_in_hour}
 use Rattle.head_core.specs.Content.{Content}
-use Rattle.block_cut.specs.Rows.{IsFull}
+use Rattle.block_read.specs.Blocks.{hour_last}
+
+-- An hour is full if some accepted sample has a time at or past its end.
+abbrev pub IsFull : ℤ → Content → Type 0
+IsFull k c = (t : ℤ) × (c.max_time ≡ Some t) × (hour_last k <ℤ t)
 
 -- an accepted sample of a series is in the hour
 pub record HasSample (k : ℤ) (c : Content) : Type 0 where

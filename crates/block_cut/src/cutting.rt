@@ -2,16 +2,17 @@
 
 ghost use Rattle.std.specs.Prelude.{◌≡◌, ◌↔◌, ◌<◌, ◌^◌, [], false, Err, IfOk, IsTrue, length};
 ghost use Rattle.head_column.specs.Hours.{IsEdge};
-ghost use Rattle.block_index.specs.Rows.{FitsIndex};
-ghost use Rattle.block_cut.specs.Rows.{IsFull, rows_of};
+ghost use Rattle.index_parts.specs.Rows.{FitsIndex};
+ghost use Rattle.block_cut.specs.Ranges.{IsFull};
+ghost use Rattle.hour_rows.specs.Rows.{rows_of};
 ghost use Rattle.block_read.specs.Blocks.{IsBlockOf, files_of, index_rows, samples_of_rows};
 
 use crate::fault::CutFault;
-use crate::rows::{last_of, rows_in};
 use crate::writing::write_block;
 use block_read::{Block, Ulid};
 use head_column::Hour;
 use head_core::Head;
+use hour_rows::{last_of, rows_in};
 use std::alloc::Global;
 use std::thread::Threads;
 

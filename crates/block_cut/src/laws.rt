@@ -11,7 +11,7 @@ ghost use Rattle.block_text.specs.Sums.{Text};
 ghost use Rattle.block_read.specs.declared.block.Block.{Block as Parts};
 ghost use Rattle.block_read.specs.Blocks.{IsBlockOf};
 ghost use Rattle.block_cut.specs.Logs.{IsBlockOfLog};
-ghost use Rattle.block_cut.specs.Rows.{rows_of};
+ghost use Rattle.hour_rows.specs.Rows.{rows_of};
 
 use head_core::one_content;
 use wal_log::one_reading;

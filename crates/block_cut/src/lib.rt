@@ -5,7 +5,6 @@ mod cutting;
 mod fault;
 mod laws;
 mod ranges;
-mod rows;
 mod writing;
 
 pub use block_files::write_chunks;

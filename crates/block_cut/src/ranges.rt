@@ -5,8 +5,7 @@ ghost use Rattle.std.specs.Ordering.{int_cmp};
 ghost use Rattle.std.specs.List.Sorted.{IsPermutation, IsSorted};
 ghost use Rattle.head_column.specs.Hours.{IsEdge, is_in_hour};
 ghost use Rattle.block_cut.specs.Cutting.{IsRangeIn};
-ghost use Rattle.block_cut.specs.Ranges.{Ascends, IsRange};
-ghost use Rattle.block_cut.specs.Rows.{IsFull};
+ghost use Rattle.block_cut.specs.Ranges.{Ascends, IsFull, IsRange};
 
 use crate::cutting::is_full;
 use head_column::{Hour, Sample};

@@ -3,23 +3,24 @@
 ghost use Rattle.std.specs.Prelude.{◌≡◌, ◌≤◌, ◌<◌, ◌^◌, ◌+◌, ◌++◌, List, Err, OnOk, length, map, All, IfOk};
 ghost use Rattle.std.specs.List.{sum_by, zip};
 ghost use Rattle.std.specs.Io.Iter.{u64_saturate};
-ghost use Rattle.std.specs.declared.cmp.Ordering.TheVariants.{Less};
-ghost use Rattle.wal_record.specs.Labels.{compare_labels};
 ghost use Rattle.head_column.specs.Hours.{IsEdge};
-ghost use Rattle.block_index.specs.Rows.{FitsChunk, FitsIndex, IsChain};
+ghost use Rattle.index_parts.specs.Index.{index_text, series_ids};
+ghost use Rattle.index_parts.specs.Rows.{AreRows, FitsChunk, FitsIndex};
 ghost use Rattle.block_files.specs.Files.{AreShort, all_texts, chunk_files};
+ghost use Rattle.block_files.specs.Tombstones.{tombstones_text};
 ghost use Rattle.block_read.specs.declared.rows.BlockRow.{BlockRow as Row};
-ghost use Rattle.block_read.specs.Blocks.{IsRowOf, block_text, file_limit, files_of, index_rows, meta_of, samples_of_rows, tombstones_of as tombstones_of_runs};
-ghost use Rattle.block_cut.specs.Cutting.{AreCutRows, chunk_count, in_chunks, index_rows_of as rows_of_index, metas_in, sample_count};
+ghost use Rattle.block_read.specs.Blocks.{block_text, file_limit, files_of, index_rows, meta_of, samples_of_rows, tombstones_of as tombstones_of_runs};
+ghost use Rattle.hour_rows.specs.Chunked.{in_chunks};
+ghost use Rattle.block_cut.specs.Cutting.{AreCutRows, chunk_count, index_rows_of as rows_of_index, metas_in, sample_count};
 
-use crate::rows::{CutRow, first_of, last_of};
 use block_files::{
     CHUNK_FILE_LIMIT, ChunkFiles, Meta, Tombstone, Ulid, write_meta, write_tombstones,
 };
-use block_index::{ChunkMeta, IndexRow, few_chunks, write_numbered_index};
+use block_index::{ChunkMeta, IndexRow, NumberedIndex, few_chunks, write_numbered_index};
 use block_read::Block;
 use block_text::WriteFault;
 use head_column::{Chunk, Hour, Run};
+use hour_rows::{CutRow, end_of, first_of};
 use hw_bytes::Items;
 use std::alloc::{AllocError, Global};
 use wal_record::LabelSet;
@@ -180,6 +181,34 @@ fn tombstones_of(
     Ok(tombstones)
 }
 
+// The text of an index and of the tombstones.
+struct Indexed {
+    index: Items<u8>,
+    tombstones: Items<u8>,
+}
+
+// Writes the index of rows with these labels and chunks, and the tombstones of their hidden runs.
+fn write_rows(
+    alloc: Global,
+    labels: Vec<LabelSet>,
+    metas: Vec<Items<ChunkMeta>>,
+    hidden: &[Items<Run>],
+) -> Result<Indexed, WriteFault>
+    requires { AreRows (rows_of_index labels.items metas.items) }
+    ensures index { IfOk result (λ texts. texts.index ≡ index_text (rows_of_index labels.items metas.items)) }
+    ensures tombstones { IfOk result (λ texts. texts.tombstones ≡ tombstones_text (tombstones_of_runs (series_ids (rows_of_index labels.items metas.items)) hidden.now)) }
+    ensures fits { IfOk result (λ _. FitsIndex (rows_of_index labels.items metas.items)) }
+    ensures large { result ≡ Err WriteFault.TooLarge → FitsIndex (rows_of_index labels.items metas.items) → ⊥ }
+{
+    let index_rows = index_rows_of(alloc, labels, metas)?;
+    let NumberedIndex { text, ids } = write_numbered_index(alloc, &index_rows)?;
+    let tombstones = tombstones_of(alloc, ids.as_slice(), hidden)?;
+    Ok(Indexed {
+        tombstones: Items::from_vec(write_tombstones(alloc, &tombstones)?),
+        index: text,
+    })
+}
+
 /// Writes the block of rows of an hour that is no edge. There must be at least one row, in the order of label sets.
 pub(crate) fn write_block(
     alloc: Global,
@@ -204,23 +233,21 @@ pub(crate) fn write_block(
     let samples = count_samples(&chunks);
     let chunk_count = count_chunks(&chunks);
     let Placed { files, metas } = place_chunks(alloc, chunks)?;
-    let index_rows = index_rows_of(alloc, labels, metas)?;
-    let index = write_numbered_index(alloc, &index_rows)?;
+    let Indexed { index, tombstones } = write_rows(alloc, labels, metas, &hidden)?;
     // for the proof: the counts did not saturate
     few_chunks();
-    let tombstones = tombstones_of(alloc, index.ids.as_slice(), &hidden)?;
     let description = Meta {
         ulid: *ulid,
         min_time: first_of(hour),
-        max_time: last_of(hour) + 1,
+        max_time: end_of(hour),
         samples,
         series,
         chunks: chunk_count,
     };
     Ok(Block {
-        index: index.text,
-        chunks: files,
-        tombstones: Items::from_vec(write_tombstones(alloc, &tombstones)?),
         meta: Items::from_vec(write_meta(alloc, &description)?),
+        index,
+        chunks: files,
+        tombstones,
     })
 }

@@ -10,8 +10,8 @@ use Rattle.head_column.specs.declared.items.Sample.{Sample}
 use Rattle.head_column.specs.declared.chunk.Chunk.{Chunk}
 use Rattle.head_column.specs.Chunks.{chunk_of, chunk_samples, chunk_text, chunks_of, parts}
 use Rattle.block_text.specs.Sums.{Text}
-use Rattle.block_index.specs.declared.row.ChunkMeta.{ChunkMeta}
-use Rattle.block_index.specs.declared.row.IndexRow.{IndexRow}
+use Rattle.index_parts.specs.declared.row.ChunkMeta.{ChunkMeta}
+use Rattle.index_parts.specs.declared.row.IndexRow.{IndexRow}
 use Rattle.block_files.specs.Files.{StandsAt, Written, all_texts, chunk_files, longest_chunk, reference_behind, row_references, row_texts, texts}
 use Rattle.block_files.proofs.Placed.{chunk_stands}
 use Rattle.block_files.proofs.RowLaws.{along_count, along_same, flat, rows_large, whole}

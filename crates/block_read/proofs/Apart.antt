@@ -5,7 +5,7 @@ use Rattle.std.proofs.lemmas.List.{append-nil, length-append, length-drop, lengt
 use Rattle.std.proofs.lemmas.List.Elements.{All-append, All-cons, All-head, All-nil, All-tail}
 use Rattle.head_column.specs.declared.items.Run.{Run}
 use Rattle.head_column.specs.Runs.{AreApart, BeginPast, IsRun}
-use Rattle.block_index.specs.Rows.{IsChain}
+use Rattle.index_parts.specs.Rows.{IsChain}
 use Rattle.block_files.specs.declared.tombstones.Tombstone.{Tombstone}
 use Rattle.block_files.specs.Tombstones.{IsFit, tombstones_text}
 use Rattle.block_files.proofs.RowLaws.{all_first, all_second, whole}

@@ -14,9 +14,9 @@ use Rattle.head_column.specs.Hours.{IsEdge, hour_start}
 use Rattle.head_column.specs.Runs.{AreApart}
 use Rattle.head_column.proofs.HourLaws.{above_least, below_greatest, inside}
 use Rattle.block_text.specs.Sums.{Text}
-use Rattle.block_index.specs.declared.row.IndexRow.{IndexRow}
-use Rattle.block_index.specs.Index.{index_text, series_ids}
-use Rattle.block_index.specs.Rows.{FitsIndex, IsIndex, IsRow}
+use Rattle.index_parts.specs.declared.row.IndexRow.{IndexRow}
+use Rattle.index_parts.specs.Index.{index_text, series_ids}
+use Rattle.index_parts.specs.Rows.{FitsIndex, IsIndex, IsRow}
 use Rattle.block_files.specs.declared.meta.Meta.{Meta}
 use Rattle.block_files.specs.Files.{all_texts}
 use Rattle.block_files.specs.Meta.{meta_text}

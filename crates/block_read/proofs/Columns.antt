@@ -15,7 +15,7 @@ use Rattle.head_column.specs.Samples.{Rises}
 use Rattle.head_column.specs.Chunks.{AreFull, IsChunk, IsFit, chunk_of, chunk_samples, chunk_text, chunks_of, first_time, last_time, parts, samples_text, time_text, value_text}
 use Rattle.head_column.proofs.Parts.{one_parts, parts_are}
 use Rattle.block_text.specs.Sums.{Text}
-use Rattle.block_index.specs.declared.row.ChunkMeta.{ChunkMeta}
+use Rattle.index_parts.specs.declared.row.ChunkMeta.{ChunkMeta}
 use Rattle.block_files.specs.Files.{StandsAt, longest_chunk, row_texts}
 use Rattle.block_files.proofs.RowLaws.{all_first, all_second}
 use Rattle.block_read.specs.Blocks.{IsColumn}

@@ -8,8 +8,8 @@ use Rattle.head_column.specs.declared.items.Sample.{Sample}
 use Rattle.head_column.specs.declared.chunk.Chunk.{Chunk}
 use Rattle.head_column.specs.Chunks.{chunks_of}
 use Rattle.block_text.specs.Sums.{Text}
-use Rattle.block_index.specs.declared.row.ChunkMeta.{ChunkMeta}
-use Rattle.block_index.specs.declared.row.IndexRow.{IndexRow}
+use Rattle.index_parts.specs.declared.row.ChunkMeta.{ChunkMeta}
+use Rattle.index_parts.specs.declared.row.IndexRow.{IndexRow}
 use Rattle.block_files.specs.Files.{all_texts, reference_behind, row_references, row_texts, texts}
 use Rattle.block_files.proofs.RowLaws.{along_count, flat}
 use Rattle.block_read.specs.Blocks.{HasSamples, chunks_of_rows, file_limit, meta_of, metas_of}

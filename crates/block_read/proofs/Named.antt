@@ -17,9 +17,9 @@ use Rattle.head_column.specs.Samples.{Rises}
 use Rattle.head_column.specs.Chunks.{AreFull, IsFit, chunk_of, chunk_samples, chunks_of, first_time, last_time, parts}
 use Rattle.head_column.proofs.Parts.{parts_are}
 use Rattle.block_text.specs.Sums.{Text}
-use Rattle.block_index.specs.declared.row.ChunkMeta.{ChunkMeta}
-use Rattle.block_index.specs.declared.row.IndexRow.{IndexRow}
-use Rattle.block_index.specs.Rows.{AreRows, FitsChunk, IsChain, IsRow}
+use Rattle.index_parts.specs.declared.row.ChunkMeta.{ChunkMeta}
+use Rattle.index_parts.specs.declared.row.IndexRow.{IndexRow}
+use Rattle.index_parts.specs.Rows.{AreRows, FitsChunk, IsChain, IsRow}
 use Rattle.block_files.specs.Files.{chunk_element, chunk_files, last_reference, reference_behind, row_references, row_texts, texts, with_chunk}
 use Rattle.block_files.proofs.FileLaws.{last_reference_at}
 use Rattle.block_files.proofs.Placed.{placed}

@@ -3,9 +3,9 @@ use Rattle.std.proofs.Common.{◌≡◌, ℕ, List, map, sym, ap, subst, ◌∙�
 use Rattle.block_text.specs.Sums.{Text}
 use Rattle.head_column.specs.declared.items.Run.{Run}
 use Rattle.head_column.specs.declared.items.Sample.{Sample}
-use Rattle.block_index.specs.declared.row.IndexRow.{IndexRow}
-use Rattle.block_index.specs.Index.{series_ids}
-use Rattle.block_index.specs.Rows.{IsIndex}
+use Rattle.index_parts.specs.declared.row.IndexRow.{IndexRow}
+use Rattle.index_parts.specs.Index.{series_ids}
+use Rattle.index_parts.specs.Rows.{IsIndex}
 use Rattle.block_read.specs.declared.block.Block.{Block}
 use Rattle.block_read.specs.declared.rows.BlockRow.{BlockRow}
 use Rattle.block_read.specs.declared.rows.BlockRows.{BlockRows}
@@ -14,8 +14,8 @@ use Rattle.block_read.specs.Reading.{HasMeta, HaveRuns}
 use Rattle.std.proofs.Common.{Result}
 use Rattle.std.specs.Prelude.{IfErr, IsErrAnd}
 use Rattle.std.proofs.lemmas.Result.{err_from_is_err_and}
-use Rattle.block_index.specs.declared.fault.ReadFault.{ReadFault}
-use Rattle.block_index.specs.declared.fault.ReadFault.TheVariants as read
+use Rattle.index_parts.specs.declared.fault.ReadFault.{ReadFault}
+use Rattle.index_parts.specs.declared.fault.ReadFault.TheVariants as read
 use Rattle.block_read.specs.declared.fault.BlockFault.{BlockFault}
 use Rattle.block_read.specs.declared.fault.BlockFault.TheVariants as block_fault
 use Rattle.block_read.specs.Faults.{of_index}

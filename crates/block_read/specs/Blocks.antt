@@ -12,10 +12,10 @@ use Rattle.head_column.specs.Hours.{IsEdge, hour_start, is_in_hour}
 use Rattle.head_column.specs.Runs.{AreApart}
 use Rattle.head_column.specs.Samples.{Rises}
 use Rattle.block_text.specs.Sums.{Text}
-use Rattle.block_index.specs.declared.row.ChunkMeta.{ChunkMeta}
-use Rattle.block_index.specs.declared.row.IndexRow.{IndexRow}
-use Rattle.block_index.specs.Index.{index_text, series_ids}
-use Rattle.block_index.specs.Rows.{FitsIndex, IsChain}
+use Rattle.index_parts.specs.declared.row.ChunkMeta.{ChunkMeta}
+use Rattle.index_parts.specs.declared.row.IndexRow.{IndexRow}
+use Rattle.index_parts.specs.Index.{index_text, series_ids}
+use Rattle.index_parts.specs.Rows.{FitsIndex, IsChain}
 use Rattle.block_files.specs.declared.meta.Meta.{Meta}
 use Rattle.block_files.specs.declared.tombstones.Tombstone.{Tombstone}
 use Rattle.block_files.specs.Files.{all_texts, chunk_files, references, texts}

@@ -1,6 +1,6 @@
 -- The error for an error of a crate below.
-use Rattle.block_index.specs.declared.fault.ReadFault.{ReadFault}
-use Rattle.block_index.specs.declared.fault.ReadFault.TheVariants as read
+use Rattle.index_parts.specs.declared.fault.ReadFault.{ReadFault}
+use Rattle.index_parts.specs.declared.fault.ReadFault.TheVariants as read
 use Rattle.head_column.specs.declared.chunk.ChunkFault.{ChunkFault}
 use Rattle.head_column.specs.declared.chunk.ChunkFault.TheVariants as chunk
 use Rattle.block_text.specs.declared.fault.WriteFault.{WriteFault}

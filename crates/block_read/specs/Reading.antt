@@ -4,7 +4,7 @@ use Rattle.std.specs.List.{AllByRecursion, flat_map, zip}
 use Rattle.head_column.specs.declared.items.Sample.{Sample}
 use Rattle.head_column.specs.Chunks.{chunk_samples, chunk_text, chunks_of, first_time, last_time}
 use Rattle.block_text.specs.Sums.{Text}
-use Rattle.block_index.specs.declared.row.ChunkMeta.{ChunkMeta}
+use Rattle.index_parts.specs.declared.row.ChunkMeta.{ChunkMeta}
 use Rattle.head_column.specs.Hours.{IsEdge, hour_start, is_in_hour}
 use Rattle.block_files.specs.declared.meta.Meta.{Meta}
 use Rattle.block_files.specs.Files.{StandsAt, all_texts, chunk_files, row_references, row_texts}

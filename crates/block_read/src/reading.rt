@@ -3,10 +3,10 @@
 ghost use Rattle.std.specs.Prelude.{◌≡◌, List, Err, IfErr, IfOk};
 ghost use Rattle.head_column.specs.declared.items.Run.{Run as HiddenRun};
 ghost use Rattle.head_column.specs.declared.items.Sample.{Sample as Entry};
-ghost use Rattle.block_index.specs.declared.fault.ReadFault.{ReadFault};
-ghost use Rattle.block_index.specs.declared.row.IndexRow.{IndexRow as Row};
-ghost use Rattle.block_index.specs.Reading.{Answers, front_of};
-ghost use Rattle.block_index.specs.Rows.{IsIndex};
+ghost use Rattle.index_parts.specs.declared.fault.ReadFault.{ReadFault};
+ghost use Rattle.index_parts.specs.declared.row.IndexRow.{IndexRow as Row};
+ghost use Rattle.index_parts.specs.Reading.{Answers, front_of};
+ghost use Rattle.index_parts.specs.Rows.{IsIndex};
 ghost use Rattle.block_read.specs.declared.rows.BlockRows.{BlockRows as Rows};
 ghost use Rattle.block_read.specs.Blocks.{HasHidden, HasSamples, IsBlockOf};
 ghost use Rattle.block_read.specs.Faults.{of_index};

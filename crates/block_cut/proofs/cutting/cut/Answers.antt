@@ -5,7 +5,7 @@ use Rattle.std.proofs.lemmas.Result.{err_from_is_err_and}
 use Rattle.block_read.specs.Blocks.{IsRowOf}
 use Rattle.block_cut.specs.declared.fault.CutFault.TheVariants as cut
 use Rattle.block_cut.specs.Faults.{cut_fault}
-use Rattle.block_cut.specs.Rows.{rows_of}
+use Rattle.hour_rows.specs.Rows.{rows_of}
 use Rattle.block_cut.proofs.Written.{some_rows, too_large, unless}
 use Rattle.block_cut.proofs.cutting.cut.Goals as goal
 

@@ -7,7 +7,7 @@ use Rattle.head_core.specs.Taken.{taken_of}
 use Rattle.head_core.specs.Content.{AreAlike, Content, IsContentOf}
 use Rattle.block_read.specs.declared.rows.BlockRow.{BlockRow}
 use Rattle.block_read.specs.Blocks.{block_text}
-use Rattle.block_cut.specs.Rows.{rows_of}
+use Rattle.hour_rows.specs.Rows.{rows_of}
 use Rattle.block_cut.proofs.laws.one_block.Goals as goal
 
 -- contents that are alike have the same rows

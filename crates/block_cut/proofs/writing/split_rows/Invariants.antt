@@ -1,5 +1,5 @@
 use Rattle.std.proofs.Common.{◌≡◌, map}
-use Rattle.block_cut.specs.declared.rows.CutRow.{CutRow}
+use Rattle.hour_rows.specs.declared.rows.CutRow.{CutRow}
 use Rattle.block_cut.proofs.writing.split_rows.Given as goal
 
 abbrev pub invariant-loop-row : goal.invariant-loop-row

@@ -1,6 +1,0 @@
-use Rattle.std.proofs.Common.{◌≡◌, take}
-use Rattle.block_cut.specs.Clipping.{runs_in}
-use Rattle.block_cut.proofs.rows.clip_runs.Given as goal
-
-abbrev pub invariant-loop-run : goal.invariant-loop-run
-invariant-loop-run l = l.kept.items ≡ runs_in l.hour (take l.run-index l.runs)

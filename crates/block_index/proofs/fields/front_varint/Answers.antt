@@ -1,5 +1,0 @@
-use Rattle.block_index.proofs.Spelled.{varint_answered}
-use Rattle.block_index.proofs.fields.front_varint.Goals as goal
-
-pub returns-clause-exact : goal.returns-clause-exact
-returns-clause-exact c = varint_answered c.args.bytes.now c.varint_at.result c.varint_at.ensures.found c.varint_at.ensures.none

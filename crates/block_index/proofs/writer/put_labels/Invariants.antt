@@ -1,8 +1,0 @@
-use Rattle.std.proofs.Common.{◌≡◌, ◌++◌, take}
-use Rattle.std.specs.List.{flat_map}
-use Rattle.block_index.specs.Gives.{nows}
-use Rattle.block_index.specs.Index.{label_refs}
-use Rattle.block_index.proofs.writer.put_labels.Given as goal
-
-abbrev pub invariant-loop-i : goal.invariant-loop-i
-invariant-loop-i l = l.out.items ≡ l.fn.out.items ++ flat_map (label_refs (nows l.table)) (take l.i l.labels)

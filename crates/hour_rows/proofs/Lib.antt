@@ -1,0 +1,5 @@
+pub mod Clips
+pub mod Gathered
+pub mod Orders
+pub mod Picked
+mod Worked

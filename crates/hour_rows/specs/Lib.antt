@@ -1,0 +1,3 @@
+pub mod Clipping
+pub mod Rows
+pub mod Chunked
