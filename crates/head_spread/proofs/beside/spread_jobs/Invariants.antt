@@ -1,13 +1,6 @@
-use Rattle.std.proofs.Common.{◌≡◌, ◌+◌, ◌++◌, length, vec_len}
-use Rattle.std.specs.List.{AllByRecursion, flat_map}
-use Rattle.head_spread.specs.Records.{records_of}
-use Rattle.head_spread.specs.Shares.{ArePlaced, IsFreshJob}
+use Rattle.std.proofs.Common.{◌≡◌, ◌+◌, vec_len}
+use Rattle.head_spread.specs.Shares.{IsShared}
 use Rattle.head_spread.proofs.beside.spread_jobs.Given as goal
 
 abbrev pub invariant-loop-worker : goal.invariant-loop-worker
-invariant-loop-worker l =
-    (vec_len l.jobs + 1 ≡ l._worker)
-    × AllByRecursion (IsFreshJob l.resolver l.changes l.seats.workers) l.jobs.items
-    × ArePlaced 0 l.jobs.items
-    × (l.place ≡ length (records_of (flat_map (λ job. job.pages.items) l.jobs.items)))
-    × (flat_map (λ job. job.pages.items) l.jobs.items ++ l.rest.items ≡ l.fn.pages.items)
+invariant-loop-worker l = (vec_len l.sharing.jobs + 1 ≡ l._worker) × IsShared l.fn.window.resolver.now l.fn.window.changes.now l.fn.window.seats.now.workers l.fn.window.pages.items l.sharing
