@@ -1,7 +1,7 @@
 use Rattle.std.proofs.Common.{arith, ◌≡◌, ◌∙◌, ◌+◌, ◌++◌, ◌∷◌, [], List, length, append_assoc, sym, ap, subst}
 use Rattle.std.proofs.lemmas.List.{take-append-drop}
 use Rattle.std.specs.List.{AllByRecursion, flat_map}
-use Rattle.std.specs.Prelude.{drop, take}
+use Rattle.std.specs.Prelude.{take}
 use Rattle.hw_bytes.proofs.Lists.{flat_map-push}
 use Rattle.wal_scan.proofs.Lists.{all_push}
 use Rattle.wal_log.specs.declared.reading.Placed.{Placed}
