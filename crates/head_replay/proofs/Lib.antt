@@ -1,14 +1,1 @@
-pub mod Ahead
-pub mod Counted
-pub mod Ending
-pub mod Growing
-pub mod Items
-pub mod Lists
-pub mod Made
-pub mod Pages
 pub mod Partial
-pub mod RecordByRecord
-pub mod Shares
-pub mod SpreadLemmas
-pub mod Taken
-pub mod Windows

@@ -1,10 +1,2 @@
-pub mod Applying
 pub mod Faults
-pub mod Next
 pub mod Partial
-pub mod Records
-pub mod Shares
-pub mod Standing
-pub mod Taken
-pub mod Taking
-pub mod Windows

@@ -1,8 +1,7 @@
 //! Errors of a replay.
 
-use head_core::HeadFault;
 use head_crew::CrewFault;
-use std::alloc::AllocError;
+use head_rounds::RoundFault;
 use std::error::Error;
 use std::fmt;
 
@@ -35,32 +34,25 @@ impl fmt::Display for ReplayFault {
 
 impl Error for ReplayFault {}
 
-/// An error of a replay with a valid number of workers.
-#[derive(Clone, Copy, Debug, PartialEq, Eq)]
-pub(crate) enum EngineFault {
-    Full,
-    Memory,
-    Workers,
-}
-
-impl From<EngineFault> for ReplayFault {
+impl From<RoundFault> for ReplayFault {
     ghost use Rattle.std.specs.Prelude.{◌≡◌};
     ghost use Rattle.head_replay.specs.Faults.{replay_fault};
 
     ghost from_gives = { λ f e. e ≡ replay_fault f };
 
-    fn from(fault: EngineFault) -> ReplayFault {
+    fn from(fault: RoundFault) -> ReplayFault {
         match fault {
-            EngineFault::Full => ReplayFault::Full,
-            EngineFault::Memory => ReplayFault::Memory,
-            EngineFault::Workers => ReplayFault::Workers,
+            RoundFault::Full => ReplayFault::Full,
+            RoundFault::Memory => ReplayFault::Memory,
+            RoundFault::Workers => ReplayFault::Workers,
         }
     }
 }
 
 impl From<CrewFault> for ReplayFault {
     ghost use Rattle.std.specs.Prelude.{◌≡◌};
-    ghost use Rattle.head_replay.specs.Faults.{crew_fault, replay_fault};
+    ghost use Rattle.head_rounds.specs.Faults.{crew_fault};
+    ghost use Rattle.head_replay.specs.Faults.{replay_fault};
 
     ghost from_gives = { λ f e. e ≡ replay_fault (crew_fault f) };
 
@@ -69,45 +61,5 @@ impl From<CrewFault> for ReplayFault {
             CrewFault::Memory => ReplayFault::Memory,
             CrewFault::Workers => ReplayFault::Workers,
         }
-    }
-}
-
-impl From<CrewFault> for EngineFault {
-    ghost use Rattle.std.specs.Prelude.{◌≡◌};
-    ghost use Rattle.head_replay.specs.Faults.{crew_fault};
-
-    ghost from_gives = { λ f e. e ≡ crew_fault f };
-
-    fn from(fault: CrewFault) -> EngineFault {
-        match fault {
-            CrewFault::Memory => EngineFault::Memory,
-            CrewFault::Workers => EngineFault::Workers,
-        }
-    }
-}
-
-impl From<HeadFault> for EngineFault {
-    ghost use Rattle.std.specs.Prelude.{◌≡◌};
-    ghost use Rattle.head_replay.specs.Faults.{head_fault};
-
-    ghost from_gives = { λ f e. e ≡ head_fault f };
-
-    fn from(fault: HeadFault) -> EngineFault {
-        match fault {
-            HeadFault::Full => EngineFault::Full,
-            // a new resolver has not failed
-            HeadFault::Memory | HeadFault::Failed => EngineFault::Memory,
-        }
-    }
-}
-
-impl From<AllocError> for EngineFault {
-    ghost use Rattle.std.specs.Prelude.{◌≡◌};
-    ghost use Rattle.head_replay.specs.declared.fault.EngineFault.TheVariants.{Memory};
-
-    ghost from_gives = { λ _ e. e ≡ Memory };
-
-    fn from(_error: AllocError) -> EngineFault {
-        EngineFault::Memory
     }
 }

@@ -1,0 +1,3 @@
+pub mod Standing
+pub mod Taken
+pub mod Taking

@@ -1,0 +1,4 @@
+pub mod Counted
+pub mod Ending
+pub mod Growing
+pub mod Lists

@@ -1,0 +1,3 @@
+pub mod Applying
+pub mod Faults
+pub mod Standing

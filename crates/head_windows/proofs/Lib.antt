@@ -1,0 +1,4 @@
+pub mod Ahead
+pub mod Items
+pub mod Made
+pub mod RecordByRecord
