@@ -1,6 +1,6 @@
-//! The live head of several threads: appenders append to it under a lock, and each keeps what it was told. A run of it ends well if what
-//! its appenders were told agrees with the head. The live head itself, a head with its log, is passed on from `logged_head`, and its rows
-//! from `head_judging`.
+//! The live head: a head that takes new rows after replay. A row is judged, logged and only then applied, so that the head always
+//! has the content of its log. Rows before the least valid time are expired: they are neither logged nor applied. `Live::truncate`
+//! raises that time.
 #![tactic(auto)]
 
 mod agreeing;

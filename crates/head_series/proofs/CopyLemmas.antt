@@ -1,6 +1,6 @@
 -- What is copied, and compared.
-use Rattle.std.proofs.Common.{◌≡◌, ℕ, zero, suc, ◌<◌, ◌≤◌, List, [], ◌∷◌, Some, ap, sym, subst, ◌∙◌, length, take, drop}
-use Rattle.std.specs.Prelude.{map, nat_eq, slice_get}
+use Rattle.std.proofs.Common.{◌≡◌, ℕ, zero, suc, ◌<◌, ◌≤◌, Bool, true, false, List, [], ◌∷◌, Some, ap, sym, subst, ◌∙◌, refl, length, take, drop, eqb-true, eq-eqb}
+use Rattle.std.specs.Prelude.{◌==◌, map, nat_eq, slice_get, if◌then◌else◌}
 use Rattle.std.specs.Cmp.Lexicographic.{slice_cmp}
 use Rattle.std.specs.Map.{lookup}
 use Rattle.std.specs.Ordering.{nat_cmp}
