@@ -147,6 +147,7 @@ enum Changed {
 }
 
 // What blocks were decoded to: a letter for each; and the bytes that they stand for, one list after another, each with its length behind it.
+#[derive(Drop)]
 struct Answers {
     letters: String,
     bytes: Vec<u8>,
