@@ -33,3 +33,5 @@ mod records;
 mod runs;
 #[cfg(test)]
 mod segments;
+#[cfg(test)]
+mod snappy;
