@@ -1,3 +1,6 @@
 pub mod Marks
 pub mod OnePacked
+pub mod Fronts
+pub mod Walks
+pub mod ClearedPages
 pub mod Worked

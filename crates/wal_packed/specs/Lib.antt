@@ -1,2 +1,4 @@
 pub mod Packed
 pub mod PackedFile
+pub mod Clearing
+pub mod Walking

@@ -4,6 +4,10 @@
 //! data of marked fragments mean is left to the caller. The format is that of tsdb/docs/format/wal.md in the Prometheus repository.
 #![tactic(auto)]
 
+mod clearing;
+mod fragment;
 mod laws;
 
+pub use clearing::{Cleared, clear_file};
+pub use fragment::FragmentMark;
 pub use laws::one_packed_file;
