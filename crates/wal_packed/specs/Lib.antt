@@ -2,3 +2,4 @@ pub mod Packed
 pub mod PackedFile
 pub mod Clearing
 pub mod Walking
+pub mod Pairing

@@ -7,7 +7,9 @@
 mod clearing;
 mod fragment;
 mod laws;
+mod reading;
 
 pub use clearing::{Cleared, clear_file};
 pub use fragment::FragmentMark;
 pub use laws::one_packed_file;
+pub use reading::{PackedPiece, PackedPieces, Packing, read_packed_file};
