@@ -5,4 +5,6 @@ pub mod Walks
 pub mod ClearedPages
 pub mod Pairs
 pub mod Readings
+pub mod SomePacked
+pub mod SameReading
 pub mod Worked
