@@ -11,5 +11,5 @@ mod reading;
 
 pub use clearing::{Cleared, clear_file};
 pub use fragment::FragmentMark;
-pub use laws::{one_packed_file, some_packed_file};
+pub use laws::{one_packed_file, same_reading, some_packed_file};
 pub use reading::{PackedPiece, PackedPieces, Packing, read_packed_file};
