@@ -35,3 +35,5 @@ mod runs;
 mod segments;
 #[cfg(test)]
 mod snappy;
+#[cfg(test)]
+mod unpacked;
