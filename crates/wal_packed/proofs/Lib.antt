@@ -1,0 +1,10 @@
+pub mod Marks
+pub mod OnePacked
+pub mod Fronts
+pub mod Walks
+pub mod ClearedPages
+pub mod Pairs
+pub mod Readings
+pub mod SomePacked
+pub mod SameReading
+pub mod Worked
