@@ -5,8 +5,10 @@
 #![tactic(auto)]
 
 mod fault;
+mod laws;
 mod pieces;
 mod unpacking;
 
 pub use fault::{UnpackDamage, UnpackFault};
+pub use laws::{one_unpacking, same_records};
 pub use unpacking::{Unpacked, UnpackedRecord, unpack_file};
