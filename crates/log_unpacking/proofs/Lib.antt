@@ -1,0 +1,4 @@
+pub mod Taken
+pub mod OneUnpacking
+pub mod SameRecords
+pub mod Worked

@@ -1,0 +1,3 @@
+pub mod Unpacking
+pub mod Taking
+pub mod Same

@@ -1,0 +1,14 @@
+//! The records that a file of a log stands for, of which some may be compressed by Snappy.
+//!
+//! A record is compressed as a whole, before it is split into fragments. So the fragments of a piece are joined first, and if all are marked
+//! as compressed the joined bytes are one block. Nothing here reads or writes a file.
+#![tactic(auto)]
+
+mod fault;
+mod laws;
+mod pieces;
+mod unpacking;
+
+pub use fault::{UnpackDamage, UnpackFault};
+pub use laws::{one_unpacking, same_records};
+pub use unpacking::{Unpacked, UnpackedRecord, unpack_file};
