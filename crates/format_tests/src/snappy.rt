@@ -1,19 +1,23 @@
 //! Blocks of Snappy's format: those of its library and of a writer by hand, whole, cut and changed.
 
 use crate::cases::{Case, check, shown};
-use hw_bytes::crc32c;
+use hw_bytes::{crc32c, put_uvarint};
 use snappy_block::{SnappyFault, decode, decode_in};
 use std::alloc::{AllocError, Global};
 
 // A block. What it stands for is told by how many bytes these are and their checksum.
 struct Decoded(&'static [u8]);
 
+fn text_of(alloc: Global, block: &[u8]) -> Result<String, AllocError> {
+    match decode(alloc, block) {
+        Ok(plain) => format!(in alloc; "{} {:08X}", plain.len(), crc32c(&plain)),
+        Err(fault) => shown(alloc, fault),
+    }
+}
+
 impl Case for Decoded {
     fn text(&self, alloc: Global) -> Result<String, AllocError> {
-        match decode(alloc, self.0) {
-            Ok(plain) => format!(in alloc; "{} {:08X}", plain.len(), crc32c(&plain)),
-            Err(fault) => shown(alloc, fault),
-        }
+        text_of(alloc, self.0)
     }
 }
 
@@ -72,6 +76,68 @@ const BLOCKS: &[(Decoded, &str)] = &[
 #[test]
 fn snappy_blocks(rt: HostRuntime) {
     check(&rt, BLOCKS);
+}
+
+// A long block: of so many bytes `a`, by copies from 1 byte back; or of so many bytes as they are, whose length is spelled behind this tag in
+// so many bytes.
+enum Long {
+    Copies(u32),
+    Literal(u32, u8, usize),
+}
+
+fn push_copies(block: &mut Vec<u8>, length: u32) -> Result<(), AllocError> {
+    block.extend_from_slice(b"\x00a")?;
+    let copied = length.saturating_sub(1);
+    for _copy in 0..copied / 64 {
+        block.extend_from_slice(b"\xFE\x01\x00")?;
+    }
+    let left = (copied % 64) as u8;
+    if left > 0 {
+        block.extend_from_slice(&[(left - 1) * 4 + 2, 1, 0])?;
+    }
+    Ok(())
+}
+
+fn push_literal(block: &mut Vec<u8>, length: u32, tag: u8, width: usize) -> Result<(), AllocError> {
+    block.push(tag)?;
+    let number = length.saturating_sub(1).to_le_bytes();
+    let (number, _) = number.split_at(width.min(4));
+    block.extend_from_slice(number)?;
+    for place in 0..length {
+        block.push((place.wrapping_mul(7) % 251) as u8)?;
+    }
+    Ok(())
+}
+
+impl Case for Long {
+    fn text(&self, alloc: Global) -> Result<String, AllocError> {
+        let mut block = Vec::new(alloc);
+        match *self {
+            Long::Copies(length) => {
+                put_uvarint(&mut block, u64::from(length))?;
+                push_copies(&mut block, length)?;
+            }
+            Long::Literal(length, tag, width) => {
+                put_uvarint(&mut block, u64::from(length))?;
+                push_literal(&mut block, length, tag, width)?;
+            }
+        }
+        text_of(alloc, &block)
+    }
+}
+
+// What the library says that each stands for: 64 KiB, less and more.
+const LONG: &[(Long, &str)] = &[
+    (Long::Copies(65_536), "65536 4E95ED3F"),
+    (Long::Copies(200_000), "200000 8F7D1677"),
+    (Long::Literal(256, 0xF0, 1), "256 B1F12F54"),
+    (Long::Literal(65_536, 0xF4, 2), "65536 8C6D4CFE"),
+    (Long::Literal(70_000, 0xF8, 3), "70000 6E2CB058"),
+];
+
+#[test]
+fn long_snappy_blocks(rt: HostRuntime) {
+    check(&rt, LONG);
 }
 
 // What the library refuses, and the fault by the order of the format.
