@@ -2,11 +2,12 @@
 _prom_head() {
     local word=${COMP_WORDS[COMP_CWORD]} options=
     if [ "$COMP_CWORD" -eq 1 ]; then
-        mapfile -t COMPREPLY < <(compgen -W 'inspect replay records series analyze dump ranges cut block append checkpoint help --help --version' -- "$word")
+        mapfile -t COMPREPLY < <(compgen -W 'inspect unpack replay records series analyze dump ranges cut block append checkpoint help --help --version' -- "$word")
         return
     fi
     case ${COMP_WORDS[1]} in
         inspect) options='-h --json --help' ;;
+        unpack) options='-h --out --through-damage --help' ;;
         replay) options='-h --workers --round-pages --min-valid --help' ;;
         records) options='-h --help' ;;
         series) options='-h --pair --workers --round-pages --min-valid --help' ;;
@@ -17,7 +18,7 @@ _prom_head() {
         block) options='-h --help' ;;
         append) options='-h --rows --floats --workers --round-pages --min-valid --help' ;;
         checkpoint) options='-h --min-valid --help' ;;
-        help) options='inspect replay records series analyze dump ranges cut block append checkpoint' ;;
+        help) options='inspect unpack replay records series analyze dump ranges cut block append checkpoint' ;;
     esac
     if [[ $word == -* || ${COMP_WORDS[1]} == help ]]; then
         mapfile -t COMPREPLY < <(compgen -W "$options" -- "$word")

@@ -1,5 +1,6 @@
 # Completes the words of prom_head in fish.
 complete -c prom_head -n __fish_use_subcommand -a inspect -d 'Says what each file of the log holds, and what may be lost'
+complete -c prom_head -n __fish_use_subcommand -a unpack -d 'Writes the log anew without compression, as the other commands read it'
 complete -c prom_head -n __fish_use_subcommand -a replay -d 'Counts what the log holds'
 complete -c prom_head -n __fish_use_subcommand -a records -d 'Lists the records of the log'
 complete -c prom_head -n __fish_use_subcommand -a series -d 'Lists the series of the log'
@@ -13,6 +14,9 @@ complete -c prom_head -n __fish_use_subcommand -a checkpoint -d 'Makes a checkpo
 complete -c prom_head -n __fish_use_subcommand -a help -d 'Print help'
 complete -c prom_head -n '__fish_seen_subcommand_from inspect' -l json -d 'Print one JSON document'
 complete -c prom_head -n '__fish_seen_subcommand_from inspect' -l help -s h -d 'Print help (see more with '\''--help'\'')'
+complete -c prom_head -n '__fish_seen_subcommand_from unpack' -l out -r -d 'The directory that is made for the log'
+complete -c prom_head -n '__fish_seen_subcommand_from unpack' -l through-damage -d 'Of a damaged log, write what is before the damage'
+complete -c prom_head -n '__fish_seen_subcommand_from unpack' -l help -s h -d 'Print help (see more with '\''--help'\'')'
 complete -c prom_head -n '__fish_seen_subcommand_from replay' -l workers -r -d 'How many workers replay the log, 1 to 64 [default: 4]'
 complete -c prom_head -n '__fish_seen_subcommand_from replay' -l round-pages -r -d 'How many pages of the log are taken in a round [default: 256]'
 complete -c prom_head -n '__fish_seen_subcommand_from replay' -l min-valid -r -d 'The least valid time in milliseconds; samples and deletions before it are expired'

@@ -17,7 +17,7 @@ use Rattle.wal_log.specs.declared.reading.Damage.{Damage}
 use Rattle.wal_log.specs.declared.reading.Placed.{Placed}
 use Rattle.wal_log.specs.Inputs.{Files}
 use Rattle.wal_log.specs.Log.{IsReading, LogFile, ReadsFiles, Spells, contents, in_order}
-use Rattle.head_core.specs.Taken.{Taken, taken_of}
+use Rattle.head_resolver.specs.Taken.{Taken, taken_of}
 
 -- ---- the times of a log's entries fit
 

@@ -4,7 +4,7 @@ use Rattle.wal_log.specs.Inputs.{Files}
 use Rattle.wal_log.specs.declared.reading.Damage.{Damage}
 use Rattle.wal_log.specs.declared.reading.Placed.{Placed}
 use Rattle.wal_log.specs.Log.{IsReading, contents}
-use Rattle.head_core.specs.Taken.{taken_of}
+use Rattle.head_resolver.specs.Taken.{taken_of}
 use Rattle.head_core.specs.Content.{Content, IsContentOf}
 use Rattle.block_text.specs.Sums.{Text}
 use Rattle.block_read.specs.declared.block.Block.{Block}

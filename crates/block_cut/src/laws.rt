@@ -5,7 +5,7 @@ ghost use Rattle.wal_log.specs.Inputs.{Files};
 ghost use Rattle.wal_log.specs.Log.{IsReading, contents};
 ghost use Rattle.wal_log.specs.declared.reading.Damage.{Damage as LogDamage};
 ghost use Rattle.wal_log.specs.declared.reading.Placed.{Placed as PlacedRecord};
-ghost use Rattle.head_core.specs.Taken.{taken_of};
+ghost use Rattle.head_resolver.specs.Taken.{taken_of};
 ghost use Rattle.head_core.specs.Content.{Content, IsContentOf};
 ghost use Rattle.block_text.specs.Sums.{Text};
 ghost use Rattle.block_read.specs.declared.block.Block.{Block as Parts};

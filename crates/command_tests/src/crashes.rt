@@ -1,8 +1,8 @@
-//! What stands after a crash at each call of `append`, `cut` and `checkpoint`.
+//! What stands after a crash at each call of `append`, `cut`, `checkpoint` and `unpack`.
 
 use crate::checks::{ULID, assert_names, has_name, same};
 use crate::fragments::*;
-use crate::runs::{APPEND, CHECKPOINT, CUT, Case, carried_out, complaint, shelf_of};
+use crate::runs::{APPEND, CHECKPOINT, CUT, Case, UNPACK, carried_out, complaint, shelf_of};
 use crate::shelf::Shelf;
 use crate::tree::Kept;
 use block_commands::BlockRequest;
@@ -205,6 +205,33 @@ fn crash_at_each_call_of_checkpoint(rt: HostRuntime) -> Result<(), StoreFault> {
     for call in 1..13 {
         for kept in WAYS {
             assert_checkpoint(&rt, (call, *kept))?;
+        }
+    }
+    Ok(())
+}
+
+// The log is whole at its new place, or it is not there. It is there where the run had ended well.
+fn assert_unpacked<R: Abort + Threads + Wait + Sync + AllocGlobal>(
+    rt: &R,
+    crash: Crash,
+) -> Result<(), StoreFault> {
+    let (shelf, is_done) = crashed(rt, &UNPACK, crash)?;
+    let is_there = has_name(&shelf, "out", "log")?;
+    same(rt, crash, is_there || !is_done, true);
+    if is_there {
+        let old = "out/log/checkpoint.00000002/00000000";
+        assert_bytes(rt, crash, &shelf, old, SERIES_3);
+        assert_bytes(rt, crash, &shelf, "out/log/00000003", SAMPLE_1_AT_1030);
+    }
+    Ok(())
+}
+
+// There are 19 calls.
+#[test]
+fn crash_at_each_call_of_unpack(rt: HostRuntime) -> Result<(), StoreFault> {
+    for call in 1..21 {
+        for kept in WAYS {
+            assert_unpacked(&rt, (call, *kept))?;
         }
     }
     Ok(())

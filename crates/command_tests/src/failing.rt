@@ -3,7 +3,7 @@
 use crate::checks::{UNSAID, assert_names, same};
 use crate::fragments::*;
 use crate::runs::{
-    APPEND, CHECKPOINT, CUT, Case, Left, OPTIONS, OUT_OF_MEMORY, carried_out, complaint,
+    APPEND, CHECKPOINT, CUT, Case, Left, OPTIONS, OUT_OF_MEMORY, UNPACK, carried_out, complaint,
     replayed_by, shelf_of,
 };
 use crate::shelf::Shelf;
@@ -226,6 +226,52 @@ const CALLS_OF_CUT: &[(&str, &str)] = &[
 fn each_call_of_cut_fails(rt: HostRuntime) -> Result<(), StoreFault> {
     let done = (0, "samples 3\nseries 2\nchunks 2\n", "");
     assert_each(&rt, &CUT, CALLS_OF_CUT, (done, THERE))
+}
+
+const NO_LOG: &str = "cannot write out/log";
+
+const NO_LOG_BEGUN: &str = "cannot write out/log.tmp";
+
+const NO_OLD_LOG: &str = "cannot write out/log.tmp/checkpoint.00000002";
+
+const NO_OLD_FILE: &str = "cannot write out/log.tmp/checkpoint.00000002/00000000";
+
+const NO_SEGMENT: &str = "cannot write out/log.tmp/00000003";
+
+const OLD_FILE_UNREAD: &str = "cannot read log/checkpoint.00000002/00000000";
+
+const SEGMENT_UNREAD: &str = "cannot read log/00000003";
+
+const LOG_BESIDE: &str = " log.tmp";
+
+// The directory is listed, the log and its checkpoint are, and each file is read. Then the two directories are made; each file is read again,
+// and is made, written and synced; the two directories are synced, the last one is renamed, and the directory that it is in is synced.
+const CALLS_OF_UNPACK: &[(&str, &str)] = &[
+    (NO_LOG_BEGUN, ""),
+    ("cannot read log", ""),
+    ("cannot read log/checkpoint.00000002", ""),
+    (OLD_FILE_UNREAD, ""),
+    (SEGMENT_UNREAD, ""),
+    (NO_LOG_BEGUN, ""),
+    (NO_OLD_LOG, LOG_BESIDE),
+    (OLD_FILE_UNREAD, LOG_BESIDE),
+    (NO_OLD_FILE, LOG_BESIDE),
+    (NO_OLD_FILE, LOG_BESIDE),
+    (NO_OLD_FILE, LOG_BESIDE),
+    (SEGMENT_UNREAD, LOG_BESIDE),
+    (NO_SEGMENT, LOG_BESIDE),
+    (NO_SEGMENT, LOG_BESIDE),
+    (NO_SEGMENT, LOG_BESIDE),
+    (NO_OLD_LOG, LOG_BESIDE),
+    (NO_LOG_BEGUN, LOG_BESIDE),
+    (NO_LOG, LOG_BESIDE),
+    (NO_LOG, " log"),
+];
+
+#[test]
+fn each_call_of_unpack_fails(rt: HostRuntime) -> Result<(), StoreFault> {
+    let done = (0, "files 2\nrecords 2\nbytes 63\n", "");
+    assert_each(&rt, &UNPACK, CALLS_OF_UNPACK, (done, " log"))
 }
 
 const APPENDED: Left = (0, "accepted\nsegment 00000001\n", "");

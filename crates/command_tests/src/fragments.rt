@@ -28,6 +28,19 @@ pub const SAMPLE_1_AT_1030: &[u8] = b"\x01\0\x1b\xd1\xec\x14\x4a\
     \0\0\0\0\0\0\0\x01\0\0\0\0\0\0\x04\x06\
     \x00\x00\0\0\0\0\0\0\0\x08";
 
+// s(3 __name__=up)
+pub const SERIES_3: &[u8] = b"\x01\0\x16\x91\x17\x3e\x7f\
+    \x01\
+    \0\0\0\0\0\0\0\x03\
+    \x01\x08__name__\x02up";
+
+// The same, compressed by Snappy's library: its length 22, a literal of 2 bytes, a copy of 6 from 1 back, and a literal of 14.
+pub const SERIES_3_COMPRESSED: &[u8] = b"\x09\0\x15\xc4\xcc\xf0\xc6\
+    \x16\
+    \x04\x01\0\
+    \x09\x01\
+    \x34\x03\x01\x08__name__\x02up";
+
 pub const RECORD_OF_NO_BYTES: &[u8] = b"\x01\0\0\0\0\0\0";
 
 // No fragment: its type is no part's.

@@ -7,7 +7,7 @@ use head_replay::Options;
 use live_commands::{AppendRequest, CheckpointRequest};
 use prom_commands::Request;
 use prom_line::{Asked, parse};
-use prom_store::{AnalyzeRequest, DumpRequest, Fault};
+use prom_store::{AnalyzeRequest, DumpRequest, Fault, UnpackRequest};
 use std::alloc::{AllocError, Global};
 use std::process::Abort;
 
@@ -147,6 +147,22 @@ fn options_of_each_command(rt: HostRuntime) -> Result<(), AllocError> {
     };
     let line = "prom_head checkpoint log --min-valid=-5";
     assert_asked(&rt, line, Asked::Checkpoint(checkpoint))
+}
+
+#[test]
+fn options_of_unpack(rt: HostRuntime) -> Result<(), AllocError> {
+    for (line, through_damage) in [
+        ("prom_head unpack log --out a/b", false),
+        ("prom_head unpack --through-damage --out=a/b log", true),
+    ] {
+        let request = UnpackRequest {
+            dir: "log",
+            out: "a/b",
+            through_damage,
+        };
+        assert_asked(&rt, line, Asked::Unpack(request))?;
+    }
+    Ok(())
 }
 
 // Each fault that stands for itself, with its status and its text. That rows are longer than a segment of 134,217,728 bytes is shown of the

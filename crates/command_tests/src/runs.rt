@@ -8,12 +8,13 @@ use head_replay::Options;
 use live_commands::{AppendRequest, CheckpointRequest, carry_out_append, carry_out_checkpoint};
 use prom_commands::{Answer, Progress, carry_out};
 use prom_line::Asked;
-use prom_store::{AnalyzeRequest, DumpRequest, Store, StoreFault};
+use prom_store::{AnalyzeRequest, DumpRequest, Store, StoreFault, UnpackRequest};
 use query_commands::{carry_out_analyze, carry_out_dump};
 use std::alloc::{AllocError, Global};
 use std::sync::Wait;
 use std::thread::Threads;
 use survey_commands::carry_out_inspect;
+use unpack_commands::carry_out_unpack;
 
 /// How logs are replayed. What is found does not depend on it.
 pub const OPTIONS: &[Options] = &[
@@ -102,6 +103,7 @@ pub fn carried_out<R: Threads + Wait + Sync + AllocGlobal, S: Store, P: Progress
         Asked::OfBlocks(request) => carry_out_block(rt, alloc, store, progress, request),
         Asked::Append(request) => carry_out_append(rt, alloc, store, progress, request),
         Asked::Checkpoint(request) => carry_out_checkpoint(alloc, store, request),
+        Asked::Unpack(request) => carry_out_unpack(alloc, store, request),
     }
 }
 
@@ -159,4 +161,21 @@ pub const CHECKPOINT: Case = Case {
         min_valid: 3000,
     }),
     dir: "log",
+};
+
+/// A checkpoint of one compressed record and a segment of one without compression are unpacked.
+pub const UNPACK: Case = Case {
+    standing: &[
+        ("log/", b""),
+        ("log/checkpoint.00000002/", b""),
+        ("log/checkpoint.00000002/00000000", SERIES_3_COMPRESSED),
+        ("log/00000003", SAMPLE_1_AT_1030),
+        ("out/", b""),
+    ],
+    asked: Asked::Unpack(UnpackRequest {
+        dir: "log",
+        out: "out/log",
+        through_damage: false,
+    }),
+    dir: "out",
 };

@@ -36,4 +36,6 @@ mod segments;
 #[cfg(test)]
 mod snappy;
 #[cfg(test)]
+mod texts;
+#[cfg(test)]
 mod unpacked;

@@ -18,16 +18,16 @@ use Rattle.head_series.specs.Table.{Labels}
 use Rattle.head_series.specs.Texts.{place}
 use Rattle.head_series.specs.Bindings.{series_of}
 use Rattle.head_series.proofs.Places.{place_none, place_within}
-use Rattle.head_core.specs.Owners.{bindings, owner}
-use Rattle.head_core.specs.Taken.{Taken}
-use Rattle.head_core.specs.Counts.{Fate, accepted, stale, hides, empty_stone, sample_item, stone_item, items_of, fate_of, unknown_fate, item_fate, fate_at, fates, is_fate, counts_of}
-use Rattle.head_core.specs.Resolved.{slot_behind, with_slot, items_at, resolved}
+use Rattle.head_resolver.specs.Owners.{bindings, owner}
+use Rattle.head_resolver.specs.Taken.{Taken}
+use Rattle.head_resolver.specs.Counts.{Fate, accepted, stale, hides, empty_stone, sample_item, stone_item, items_of, fate_of, unknown_fate, item_fate, fate_at, fates, is_fate, counts_of}
+use Rattle.head_resolver.specs.Resolved.{slot_behind, with_slot, items_at, resolved}
+use Rattle.head_resolver.proofs.Counting.{fates_more}
+use Rattle.head_resolver.proofs.Known.{is_bound-series_of, owner_is_bound}
+use Rattle.head_resolver.proofs.Limits.{series_front}
+use Rattle.head_resolver.proofs.Slots.{items_of_slot, there}
 use Rattle.head_core.specs.Applied.{values_after, outcomes_after, new_slots, AreCountsOfOutcomes}
 use Rattle.head_core.proofs.Applied.{slots_by, at_slot, slots_by-replicate, values_after-slots_by, outcomes_after-append, outcomes_after-one}
-use Rattle.head_core.proofs.Counting.{fates_more}
-use Rattle.head_core.proofs.Known.{is_bound-series_of, owner_is_bound}
-use Rattle.head_core.proofs.Limits.{series_front}
-use Rattle.head_core.proofs.Slots.{items_of_slot, there}
 
 -- whether it takes a column to tell the fate
 abbrev is_outcome : Fate → Bool

@@ -9,13 +9,13 @@ use Rattle.head_column.specs.Histories.{History, IsHistoryOf, history_after, his
 use Rattle.head_column.specs.Tallies.{latest_after, latest_of}
 use Rattle.head_series.specs.Table.{Labels}
 use Rattle.head_series.specs.Bindings.{series_of}
-use Rattle.head_core.specs.Owners.{bindings}
-use Rattle.head_core.specs.Counts.{items_of}
+use Rattle.head_resolver.specs.Owners.{bindings}
+use Rattle.head_resolver.specs.Counts.{items_of}
+use Rattle.head_resolver.specs.Resolved.{resolved}
+use Rattle.head_resolver.proofs.Slots.{items_of_slot}
 use Rattle.head_core.specs.Content.{AreHistoriesOf}
-use Rattle.head_core.specs.Resolved.{resolved}
 use Rattle.head_core.specs.Applied.{values_after, new_slots}
 use Rattle.head_core.proofs.Applied.{at_slot, slots_by-replicate, slots_by-AllZip, values_after-slots_by}
-use Rattle.head_core.proofs.Slots.{items_of_slot}
 
 -- The items of a log make the history of each series.
 pub histories_are : ((items : List Item) → IsHistoryOf items (history_of items)) → (es : List Entry) → AreHistoriesOf es (series_of (bindings es)) (map (λ p. p.1) (values_after history_after (new_slots no_history es) (resolved es)))

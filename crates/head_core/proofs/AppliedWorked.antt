@@ -7,8 +7,8 @@ use Rattle.head_column.specs.declared.items.Outcome.TheVariants.{Accepted, Stale
 use Rattle.head_column.specs.Histories.{history_after, history_outcome, no_history}
 use Rattle.head_column.specs.Tallies.{latest_after, latest_outcome}
 use Rattle.head_series.specs.Table.{Labels}
-use Rattle.head_core.specs.Counts.{bound, accepted, stale, unknown, hides, empty_stone, fates}
-use Rattle.head_core.specs.Resolved.{resolved}
+use Rattle.head_resolver.specs.Counts.{bound, accepted, stale, unknown, hides, empty_stone, fates}
+use Rattle.head_resolver.specs.Resolved.{resolved}
 use Rattle.head_core.specs.Applied.{values_after, outcomes_after, new_slots}
 
 -- {1=2} and {1=3}

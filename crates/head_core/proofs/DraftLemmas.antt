@@ -8,13 +8,12 @@ use Rattle.std.specs.Option.{option_map, option_and_then}
 use Rattle.std.proofs.lemmas.Bool.{eq-eqb, ne_eqb, eqb-true}
 use Rattle.std.proofs.lemmas.List.{map-append, take-append-drop}
 use Rattle.std.proofs.lemmas.List.Sums.{sum_by-append}
-use Rattle.std.proofs.lemmas.Grind.{flat_map-append}
 use Rattle.hw_bytes.specs.Lists.{distinct, or_else}
-use Rattle.hw_bytes.proofs.Lists.{append_none, flat_map-push, map_push}
+use Rattle.hw_bytes.proofs.Lists.{append_none, map_push}
 use Rattle.wal_record.specs.declared.record.SeriesEntry.{SeriesEntry}
 use Rattle.wal_record.specs.declared.record.WalRecord.{WalRecord}
 use Rattle.wal_record.specs.Labels.{same_labels, same_text}
-use Rattle.wal_record.specs.Entries.{Entry, series, sample, stone, entries_in, entries_of}
+use Rattle.wal_record.specs.Entries.{Entry, series, sample, stone, entries_of}
 use Rattle.wal_record.specs.Validity.{valid}
 use Rattle.head_deal.proofs.Entries.{all-push}
 use Rattle.head_column.specs.Histories.{ColumnValue, no_history}
@@ -26,13 +25,15 @@ use Rattle.head_series.proofs.Places.{place_some, place_within}
 use Rattle.head_series.proofs.PlanLemmas.{front_same, back_same, series_after-push}
 use Rattle.head_postings.specs.Postings.{Lists}
 use Rattle.head_postings.specs.Room as postings_room
-use Rattle.head_core.specs.Owners.{binding, bindings}
-use Rattle.head_core.specs.Taken.{Taken}
+use Rattle.head_resolver.specs.Owners.{binding, bindings}
+use Rattle.head_resolver.specs.Taken.{Taken}
+use Rattle.head_resolver.specs.Room.{HaveClasses, HaveCounts, HaveExpired}
+use Rattle.head_resolver.proofs.Entries.{bindings_push, bindings_append, front_at}
 use Rattle.head_core.specs.Content.{Content, AreAlike, AreHistoriesOf, IsContentOf, IsShownBy}
 use Rattle.head_core.specs.Heads.{HeadValue}
-use Rattle.head_core.specs.Room.{Made, sets_of, pointed, to_slot, targets, spare_at, spares_with, HasRoom, HaveClasses, HaveCounts, HaveExpired, HaveSpare, IsReserved}
-use Rattle.head_core.proofs.RoomLemmas.{front_at, same_many, spare_append, spare_front}
+use Rattle.head_core.specs.Room.{Made, sets_of, pointed, to_slot, targets, spare_at, spares_with, HasRoom, HaveSpare, IsReserved}
 use Rattle.head_core.specs.Draft.{Drafted, slot_after, many_at, slots_behind, AreWider, FitsIn, HaveColumns, IsDraft, IsItemEntry, IsKept, IsLonger, IsNoted}
+use Rattle.head_core.proofs.RoomLemmas.{same_many, spare_append, spare_front}
 
 -- the place in a list in front of another
 pub place_front : {A : Type 0} (p : A → Bool) (xs ys : List A) (s : ℕ) → place p xs ≡ Some s → place p (xs ++ ys) ≡ Some s
@@ -66,14 +67,6 @@ series_new ss old new l none is = ap (λ ls. ss ++ ls) is ∙ at (has_series old
   at : (b : Bool) → ss ++ (if b then old else old ++ l ∷ []) ≡ (if b then ss ++ old else (ss ++ old) ++ l ∷ [])
   at true = refl
   at false = sym (append_assoc ss old (l ∷ []))
-
--- the bindings, with one entry more
-pub bindings_push : (es : List Entry) (e : Entry) → bindings (es ++ e ∷ []) ≡ bindings es ++ binding e
-bindings_push [] e = append_none (binding e)
-bindings_push (f ∷ es) e = ap (λ bs. binding f ++ bs) (bindings_push es e) ∙ sym (append_assoc (binding f) (bindings es) (binding e))
-
-pub bindings_append : (es fs : List Entry) → bindings (es ++ fs) ≡ bindings es ++ bindings fs
-bindings_append es fs = flat_map-append binding es fs
 
 -- the slots of the references, with one entry more
 pub slots_push : (ss : List Labels) (at : ℕ → Option ℕ) (es : List Entry) (e : Entry) → slots_behind ss at (es ++ e ∷ []) ≡ slots_behind (table_room.series_after ss (bindings es)) (slots_behind ss at es) (e ∷ [])
@@ -497,22 +490,6 @@ whole_at f es xs i x within is =
     ap (λ ys. es ++ map f ys) (sym (take-append-drop (i + 1) xs)) ∙ ap (λ fs. es ++ fs) (map-append f (take (i + 1) xs) (drop (i + 1) xs))
     ∙ sym (append_assoc es (map f (take (i + 1) xs)) (map f (drop (i + 1) xs)))
     ∙ ap (λ fs. fs ++ map f (drop (i + 1) xs)) (sym (front_push f es xs i x within is))
-
-pub records_push : (rs : List WalRecord) (i : ℕ) (r : WalRecord) → i < length rs → r ≡ get_or rs i r → entries_of (take i rs) ++ entries_in r ≡ entries_of (take (i + 1) rs)
-records_push rs i r within is = sym (ap entries_of (front_at rs i r within is) ∙ flat_map-push entries_in (take i rs) r)
-
-pub records_at : (rs : List WalRecord) (i : ℕ) (r : WalRecord) → i < length rs → r ≡ get_or rs i r → entries_of rs ≡ (entries_of (take i rs) ++ entries_in r) ++ entries_of (drop (i + 1) rs)
-records_at rs i r within is =
-    ap entries_of (sym (take-append-drop (i + 1) rs)) ∙ flat_map-append entries_in (take (i + 1) rs) (drop (i + 1) rs)
-    ∙ ap (λ fs. fs ++ entries_of (drop (i + 1) rs)) (sym (records_push rs i r within is))
-
--- so many entries, and these are not all
-pub records_long : (rs : List WalRecord) (i : ℕ) (r : WalRecord) → i < length rs → r ≡ get_or rs i r → length (entries_of (take i rs)) + length (entries_in r) ≤ length (entries_of rs)
-records_long rs i r within is =
-    let a = ap length (records_at rs i r within is) in
-    let b = length-append (entries_of (take i rs) ++ entries_in r) (entries_of (drop (i + 1) rs)) in
-    let c = length-append (entries_of (take i rs)) (entries_in r) in
-    omega (arith, a, b, c)
 
 -- what room was made for, once there is room for as many columns as there are bindings
 pub draft_reserved : (k l : HeadValue) (d : Drafted) (m : Made) (rs : List WalRecord) → IsDraft k d (entries_of rs) → l.content ≡ k.content → l.failed ≡ false → l.room.spares ≡ k.room.spares

@@ -1,22 +1,19 @@
 -- Entries that bind nothing and come to no series.
 use Rattle.std.proofs.Common.{◌≡◌, ℕ, List, [], ◌∷◌, ◌++◌, Option, Some, None, refl, ap, sym, ◌∙◌, length}
-use Rattle.std.specs.Prelude.{map}
 use Rattle.std.proofs.Math.Path.{fun_ext}
 use Rattle.wal_record.specs.declared.record.SeriesEntry.{SeriesEntry}
 use Rattle.wal_record.specs.Entries.{Entry, series, sample, stone}
 use Rattle.head_series.specs.Table.{Labels, Table, slot_at}
-use Rattle.head_core.specs.Owners.{binding, bindings}
+use Rattle.head_resolver.specs.Owners.{binding, bindings}
+use Rattle.head_resolver.proofs.Entries.{one_is_some, bindings_append, bindings_push}
 use Rattle.head_core.specs.Heads.{HeadValue}
 use Rattle.head_core.specs.Room.{IsIdle, sets_of, targets, to_slot}
 use Rattle.head_core.specs.Draft.{Drafted, IsDraft, IsItemEntry, IsKept, slot_after, slots_behind}
-use Rattle.head_core.proofs.DraftLemmas.{bindings_append, bindings_push, item_targets}
+use Rattle.head_core.proofs.DraftLemmas.{item_targets}
 
 both_none : {A : Type 0} (xs ys : List A) → xs ++ ys ≡ [] → (xs ≡ []) × (ys ≡ [])
 both_none [] ys e = (refl, e)
 both_none (x ∷ xs) ys e = cc
-
-pub one_is_some : {A : Type 0} (x : A) (xs : List A) → x ∷ xs ≡ [] → ⊥
-one_is_some x xs e = cc
 
 pub some_is_some : {s : ℕ} → Some s ≡ None → ⊥
 some_is_some e = cc
@@ -40,11 +37,6 @@ targets_append ss at [] fs e = refl
 targets_append ss at (series f ∷ es) fs e = absurd (one_is_some _ (bindings es) e)
 targets_append ss at (sample f ∷ es) fs e = ap (to_slot (at f.reference)) (targets_append ss at es fs e) ∙ to_slot_append (at f.reference) (targets ss at es) (targets ss at fs)
 targets_append ss at (stone f ∷ es) fs e = ap (to_slot (at f.reference)) (targets_append ss at es fs e) ∙ to_slot_append (at f.reference) (targets ss at es) (targets ss at fs)
-
--- series entries bind something, if there are any
-pub binds_none : (entries : List SeriesEntry) → bindings (map series entries) ≡ [] → entries ≡ []
-binds_none [] e = refl
-binds_none (f ∷ entries) e = absurd (one_is_some _ (bindings (map series entries)) e)
 
 -- so are those in front
 pub idle_front : (t : Table) (es fs : List Entry) → IsIdle t (es ++ fs) → IsIdle t es

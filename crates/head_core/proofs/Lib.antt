@@ -1,6 +1,4 @@
-pub mod Counting
 pub mod Lists
-pub mod Known
 pub mod Shown
 pub mod More
 pub mod Validity
@@ -9,26 +7,16 @@ pub mod Limits
 pub mod Taking
 pub mod Binding
 pub mod Whole
-pub mod Resolving
-pub mod ResolvingValid
-pub mod Records
-pub mod Sums
-pub mod Linking
 pub mod Assembling
 pub mod OneContent
 pub mod Truncating
 pub mod RoomLemmas
 pub mod RoomCounts
-pub mod Slots
-pub mod Windows
-pub mod SpreadAhead
-pub mod BindingAhead
 pub mod Applied
 pub mod AppliedValues
 pub mod AppliedOutcomes
 mod AppliedWorked
 mod ValidityWorked
-pub mod CountRoom
 pub mod DraftLemmas
 pub mod Idle
 pub mod OnlyCounted

@@ -2,8 +2,7 @@
 use Rattle.std.proofs.Common.{◌≡◌, ℕ, ℤ, Bool, true, false, List, [], ◌∷◌, ◌++◌, Some, None, Option, ap, sym, subst, ◌∙◌, refl, length, ◌+◌, arith}
 use Rattle.std.specs.Prelude.{slice_get, if◌then◌else◌}
 use Rattle.std.specs.Option.{option_and_then}
-use Rattle.hw_bytes.specs.Lists.{if_new, distinct}
-use Rattle.hw_bytes.proofs.Lists.{along-push, append_none, map_push, fold-push}
+use Rattle.hw_bytes.proofs.Lists.{along-push, append_none, fold-push}
 use Rattle.wal_record.specs.declared.record.SeriesEntry.{SeriesEntry}
 use Rattle.wal_record.specs.declared.record.SampleEntry.{SampleEntry}
 use Rattle.wal_record.specs.declared.record.StoneEntry.{StoneEntry}
@@ -14,22 +13,16 @@ use Rattle.head_column.specs.declared.items.Item.{Item}
 use Rattle.head_column.specs.Times.{later, greatest}
 use Rattle.head_column.specs.Histories.{IsHistoryOf, no_history, history_after}
 use Rattle.head_series.specs.Table.{has_series, slot_at}
-use Rattle.head_series.specs.Bindings.{Binding, IsTableOf, series_of}
+use Rattle.head_series.specs.Bindings.{IsTableOf, series_of}
 use Rattle.head_postings.specs.Postings.{Lists, IsPostingsOf}
-use Rattle.head_core.specs.Owners.{binding, bindings, owner}
-use Rattle.head_core.specs.Counts.{Fate, accepted, sample_item, stone_item, with_owner, known_at, fate_at, time_at, accepted_times, items_of}
+use Rattle.head_resolver.specs.Owners.{binding, bindings, owner}
+use Rattle.head_resolver.specs.Counts.{Fate, accepted, sample_item, stone_item, with_owner, known_at, fate_at, time_at, accepted_times, items_of}
+use Rattle.head_resolver.proofs.Known.{series_of-push, bindings-push, label_sets, no_items_of, items_of-none, items_of-own, items_of-other}
+use Rattle.head_resolver.proofs.Lists.{AllZip-changed, AreApart-distinct}
 use Rattle.head_core.specs.Content.{Content, IsShownBy, AreHistoriesOf, by_slot}
 use Rattle.head_core.specs.Steps.{ColumnLaw, found, told, put_item, histories_after, max_item, max_after, ArePosted, IsStep}
-use Rattle.head_core.proofs.Lists.{AllZip-weaker, AllZip-one_more, AllZip-changed, AreApart-distinct, enumerate_from-push}
-use Rattle.head_core.proofs.Known.{bindings-push, label_sets, is_bound-series_of, no_items_of, items_of-none, items_of-own, items_of-other}
+use Rattle.head_core.proofs.Lists.{AllZip-weaker, AllZip-one_more, enumerate_from-push}
 use Rattle.head_core.proofs.Shown.{stands, unowned, told_is}
-
--- what one binding more does to the series
-pub series_of-push : (bs : List Binding) (b : Binding) → series_of (bs ++ b ∷ []) ≡ series_of bs ++ (if has_series (series_of bs) b.labels then [] else b.labels ∷ [])
-series_of-push bs b =
-    ap (distinct same_labels) (map_push (λ (c : Binding). c.labels) bs b)
-    ∙ along-push (if_new same_labels) (label_sets bs) b.labels
-    ∙ ap (λ f. series_of bs ++ (if f then [] else b.labels ∷ [])) (sym (is_bound-series_of bs b.labels))
 
 -- the accepted times, with one entry more
 accepted_times-push : (es : List Entry) (e : Entry) → accepted_times (es ++ e ∷ []) ≡ accepted_times es ++ time_at (fate_at es e) e

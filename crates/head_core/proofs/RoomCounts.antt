@@ -7,12 +7,14 @@ use Rattle.wal_record.specs.declared.record.WalRecord.{WalRecord}
 use Rattle.wal_record.specs.declared.record.WalRecord.TheVariants.{Series, Samples, Stones, Other}
 use Rattle.wal_record.specs.Entries.{Entry, entries_in, entries_of}
 use Rattle.wal_record.specs.Validity.{expired_samples, expired_stones, is_expired_sample, is_expired_stone}
-use Rattle.head_core.specs.declared.counts.Counts.{Counts}
-use Rattle.head_core.specs.Counts.{count_of_class, Fate, bound, accepted, stale, unknown, hides, empty_stone, unknown_stone}
+use Rattle.head_resolver.specs.declared.counts.Counts.{Counts}
+use Rattle.head_resolver.specs.Counts.{count_of_class, Fate, bound, accepted, stale, unknown, hides, empty_stone, unknown_stone}
+use Rattle.head_resolver.specs.Room.{HaveClasses, HaveExpired}
+use Rattle.head_resolver.specs.Steps.{count_of_fate, with_expired, with_fate, with_record}
 use Rattle.head_core.specs.Content.{Content}
 use Rattle.head_core.specs.Heads.{ColumnRoom, HeadValue}
-use Rattle.head_core.specs.Room.{Made, HaveClasses, HaveExpired, HasRoom}
-use Rattle.head_core.specs.Steps.{count_of_fate, with_expired, with_fate, with_record, told, IsExpiredOver, Takes, none, more}
+use Rattle.head_core.specs.Room.{Made, HasRoom}
+use Rattle.head_core.specs.Steps.{told, Takes, none, more}
 
 -- the counts of entries, where a record was counted
 same_fates : (f : Fate) (r : WalRecord) (c : Counts) → count_of_fate f (with_record r c) ≡ count_of_fate f c
@@ -200,10 +202,3 @@ room_for_expired c r rs have =
     let samples = have.samples in
     let stones = have.stones in
     record { samples = omega (arith, samples, long); stones = omega (arith, stones, long) }
-
--- the class of a record does not matter to the counts of expired entries
-pub over_alone : (m : ℤ) (r q : WalRecord) (c : Counts) → IsExpiredOver m r (with_record q c) → IsExpiredOver m r c
-over_alone m r (Series es) c o = o
-over_alone m r (Samples ss) c o = o
-over_alone m r (Stones ds) c o = o
-over_alone m r (Other kind) c o = o

@@ -1,9 +1,9 @@
 -- The room of a head, before and after one entry.
-use Rattle.std.proofs.Common.{◌≡◌, ℕ, ℤ, zero, suc, ◌+◌, ◌<◌, ◌≤◌, ◌⊎◌, inl, inr, Bool, true, false, List, [], ◌∷◌, ◌++◌, Option, Some, None, ap, sym, subst, ◌∙◌, refl, arith, append_assoc, length, length-append, take, drop, get_or}
+use Rattle.std.proofs.Common.{◌≡◌, ℕ, ℤ, zero, suc, ◌+◌, ◌<◌, ◌≤◌, ◌⊎◌, inl, inr, Bool, true, false, List, [], ◌∷◌, ◌++◌, Option, Some, None, ap, sym, subst, ◌∙◌, refl, arith, append_assoc, length, length-append, drop, get_or}
 use Rattle.std.proofs.Math.Path.{fun_ext}
 use Rattle.std.proofs.Math.Dec.{eqb-suc-suc}
 use Rattle.std.specs.Prelude.{All, cond, map, count_by, nat_eq, slice_get, slice_set, if◌then◌else◌}
-use Rattle.std.proofs.lemmas.List.{drop_more, take_more}
+use Rattle.std.proofs.lemmas.List.{drop_more}
 use Rattle.std.proofs.lemmas.List.Sums.{sum_by-append}
 use Rattle.hw_bytes.proofs.Lists.{map_push}
 use Rattle.wal_record.specs.declared.record.SampleEntry.{SampleEntry}
@@ -18,12 +18,14 @@ use Rattle.head_series.specs.Table.{Labels, Table, slot_at, has_series, with_ser
 use Rattle.head_series.specs.Bindings.{Binding}
 use Rattle.head_series.specs.Room as table_room
 use Rattle.head_postings.specs.Room as postings_room
-use Rattle.head_core.specs.declared.counts.Counts.{Counts}
-use Rattle.head_core.specs.Owners.{bindings}
-use Rattle.head_core.specs.Counts.{sample_item, stone_item, Fate, bound, accepted, stale, unknown, hides, empty_stone, unknown_stone}
+use Rattle.head_resolver.specs.declared.counts.Counts.{Counts}
+use Rattle.head_resolver.specs.Owners.{bindings}
+use Rattle.head_resolver.specs.Counts.{sample_item, stone_item, Fate, bound, accepted, stale, unknown, hides, empty_stone, unknown_stone}
+use Rattle.head_resolver.specs.Steps.{count_of_fate, with_fate}
+use Rattle.head_resolver.specs.Room.{HaveCounts}
 use Rattle.head_core.specs.Heads.{ColumnRoom, HeadValue}
-use Rattle.head_core.specs.Steps.{count_of_fate, found, told_item, with_fate}
-use Rattle.head_core.specs.Room.{CanPut, sets_of, pointed, to_slot, targets, spare_at, HaveSpare, Made, spares_with, HaveCounts, HasRoom, PutUses}
+use Rattle.head_core.specs.Steps.{found, told_item}
+use Rattle.head_core.specs.Room.{CanPut, sets_of, pointed, to_slot, targets, spare_at, HaveSpare, Made, spares_with, HasRoom, PutUses}
 
 -- behind two lists that are as long, others stand alike
 pub spare_append : (xs ys zs : List ℕ) (n : ℕ → ℕ) → length ys ≡ length xs → ((s : ℕ) → spare_at xs s ≤ spare_at ys s + n s) → (s : ℕ) → spare_at (xs ++ zs) s ≤ spare_at (ys ++ zs) s + n s
@@ -339,6 +341,3 @@ drop_at f xs i x within is = ap (map f) (drop_more xs i x within ∙ ap (λ y. y
 
 pub first_at : {A : Type 0} (xs : List A) (i : ℕ) (x : A) → i < length xs → x ≡ get_or xs i x → drop i xs ≡ x ∷ drop (i + 1) xs
 first_at xs i x within is = drop_more xs i x within ∙ ap (λ y. y ∷ drop (i + 1) xs) (sym is)
-
-pub front_at : {A : Type 0} (xs : List A) (i : ℕ) (x : A) → i < length xs → x ≡ get_or xs i x → take (i + 1) xs ≡ take i xs ++ x ∷ []
-front_at xs i x within is = take_more xs i x within ∙ ap (λ y. take i xs ++ y ∷ []) (sym is)

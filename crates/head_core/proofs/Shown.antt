@@ -8,8 +8,8 @@ use Rattle.head_column.specs.declared.items.Item.{Item}
 use Rattle.head_column.specs.Histories.{History, IsHistoryOf, no_history}
 use Rattle.head_series.specs.Table.{Labels, slot_at}
 use Rattle.head_series.specs.Bindings.{series_of}
-use Rattle.head_core.specs.Owners.{bindings, owner}
-use Rattle.head_core.specs.Counts.{sample_item, stone_item, items_of, fate_of, item_fate, fate_at}
+use Rattle.head_resolver.specs.Owners.{bindings, owner}
+use Rattle.head_resolver.specs.Counts.{sample_item, stone_item, items_of, fate_of, item_fate, fate_at}
 use Rattle.head_core.specs.Content.{Content, IsShownBy}
 use Rattle.head_core.specs.Steps.{ColumnLaw, told_item, found, told}
 use Rattle.head_core.proofs.Lists.{AllZip-length, AllZip-at}

@@ -12,7 +12,6 @@ use Rattle.wal_record.specs.declared.record.StoneEntry.{StoneEntry}
 use Rattle.wal_record.specs.Labels.{same_labels}
 use Rattle.wal_record.specs.Entries.{Entry, series, sample, stone}
 use Rattle.wal_record.specs.Validity.{raised, valid_entry}
-use Rattle.wal_record.proofs.Validity.{flat_map-twice}
 use Rattle.head_column.specs.declared.items.Item.{Item}
 use Rattle.head_column.specs.declared.items.Item.TheVariants as item
 use Rattle.head_column.specs.Times.{greatest}
@@ -23,30 +22,13 @@ use Rattle.head_column.proofs.Validity.{history_valid, outcome_valid, greatest_f
 use Rattle.head_series.specs.Table.{Labels}
 use Rattle.head_series.specs.Bindings.{Binding, IsTableOf, series_of, owner as owner_of}
 use Rattle.head_postings.specs.Postings.{IsPostingsOf}
-use Rattle.head_core.specs.Owners.{binding, bindings, owner}
-use Rattle.head_core.specs.Counts.{sample_item, stone_item, with_owner, known_at, known, items_of, Fate, bound, accepted, stale, unknown, hides, empty_stone, unknown_stone, fate_of, item_fate, fate_at, time_at, accepted_times}
+use Rattle.head_resolver.specs.Owners.{bindings, owner}
+use Rattle.head_resolver.specs.Counts.{sample_item, stone_item, with_owner, known_at, known, items_of, Fate, bound, accepted, stale, unknown, hides, empty_stone, unknown_stone, fate_of, item_fate, fate_at, time_at, accepted_times}
+use Rattle.head_resolver.proofs.Validity.{valid_of, bindings_valid}
 use Rattle.head_core.specs.Content.{Content, IsShownBy, AreHistoriesOf, by_slot}
 use Rattle.head_core.specs.Validity.{content_from, IsValidEntry, entry_from}
 
--- what m leaves of some entries
-abbrev pub valid_of : ℤ → List Entry → List Entry
-valid_of m es = flat_map (valid_entry m) es
-
 -- ---- owners
-
-binding_valid : (m : ℤ) (e : Entry) → flat_map binding (valid_entry m e) ≡ binding e
-binding_valid m (series e) = refl
-binding_valid m (sample s) = by (int_le m s.time) where
-  by : (b : Bool) → flat_map binding (map sample (if b then s ∷ [] else [])) ≡ []
-  by true = refl
-  by false = refl
-binding_valid m (stone d) = by (int_le m d.max_time) where
-  by : (b : Bool) → flat_map binding (map stone (if b then raised m d ∷ [] else [])) ≡ []
-  by true = refl
-  by false = refl
-
-pub bindings_valid : (m : ℤ) (es : List Entry) → bindings (valid_of m es) ≡ bindings es
-bindings_valid m es = flat_map-twice binding (valid_entry m) binding (binding_valid m) es
 
 owner_valid : (m : ℤ) (es : List Entry) (r : ℕ) → owner (valid_of m es) r ≡ owner es r
 owner_valid m es r = ap (λ bs. owner_of bs r) (bindings_valid m es)

@@ -14,9 +14,9 @@ use Rattle.head_column.specs.Histories.{History, history_of}
 use Rattle.head_column.specs.Validity.{history_from, latest_from}
 use Rattle.head_series.specs.Table.{Labels}
 use Rattle.head_series.specs.Bindings.{series_of}
-use Rattle.head_core.specs.Owners.{bindings}
-use Rattle.head_core.specs.Taken.{taken_of}
-use Rattle.head_core.specs.Counts.{bound, accepted, stale, unknown, hides, accepted_times, counts_of, fates, items_of}
+use Rattle.head_resolver.specs.Owners.{bindings}
+use Rattle.head_resolver.specs.Taken.{taken_of}
+use Rattle.head_resolver.specs.Counts.{bound, accepted, stale, unknown, hides, accepted_times, counts_of, fates, items_of}
 
 -- {1=2} and {1=3}
 abbrev first : Labels

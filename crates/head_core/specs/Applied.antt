@@ -5,9 +5,9 @@ use Rattle.wal_record.specs.Entries.{Entry}
 use Rattle.head_deal.specs.Endings.{item_at, told_of, with_outcome_of}
 use Rattle.head_column.specs.declared.items.Outcome.{Outcome}
 use Rattle.head_series.specs.Bindings.{series_of}
-use Rattle.head_core.specs.declared.counts.Counts.{Counts}
-use Rattle.head_core.specs.Owners.{bindings}
-use Rattle.head_core.specs.Counts.{accepted, stale, hides, empty_stone, fate_of, is_fate}
+use Rattle.head_resolver.specs.declared.counts.Counts.{Counts}
+use Rattle.head_resolver.specs.Owners.{bindings}
+use Rattle.head_resolver.specs.Counts.{accepted, stale, hides, empty_stone, fate_of, is_fate}
 
 -- the slots' values after these items, each applied, in order, to the value of its slot
 abbrev pub values_after : {V I : Type 0} → (V → I → V) → List (ℕ × V) → List (ℕ × I) → List (ℕ × V)

@@ -9,7 +9,7 @@ use Rattle.head_series.specs.Texts.{place}
 use Rattle.head_series.specs.Table.{Labels, slot_at, with_series}
 use Rattle.head_series.specs.Room as table_room
 use Rattle.head_postings.specs.Room as postings_room
-use Rattle.head_core.specs.Owners.{bindings}
+use Rattle.head_resolver.specs.Owners.{bindings}
 use Rattle.head_core.specs.Content.{Content, AreAlike}
 use Rattle.head_core.specs.Heads.{HeadValue}
 use Rattle.head_core.specs.Room.{sets_of, pointed, targets, spare_at, HaveSpare, Made, spares_with}

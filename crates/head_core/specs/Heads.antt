@@ -1,10 +1,10 @@
 -- What contracts see of a head, and its invariant.
-use Rattle.std.specs.Prelude.{◌≡◌, ◌≤◌, ◌<◌, ℕ, Bool, List, All, length, slice_get, unwrap_or}
+use Rattle.std.specs.Prelude.{◌≡◌, ◌<◌, ℕ, Bool, List, All, length, slice_get, unwrap_or}
 use Rattle.head_column.specs.Histories.{History, no_history}
 use Rattle.head_series.specs.Table.{Table}
 use Rattle.head_postings.specs.Slots.{AreBelow}
 use Rattle.head_postings.specs.Postings.{Lists}
-use Rattle.head_core.specs.Content.{Content, series_limit}
+use Rattle.head_core.specs.Content.{Content}
 
 -- the number of columns that can be added without allocating, and the number of items that each column takes without allocating
 pub record ColumnRoom : Type 0 where
@@ -24,12 +24,6 @@ history_at c slot = unwrap_or (slice_get c.histories slot) no_history
 -- each of these is the slot of a series
 abbrev pub AreSlots : Content → List ℕ → Type 0
 AreSlots c slots = All (λ s. s < length c.table.series) slots
-
--- the table has the limits of a head and is within them
-pub record IsBounded (table : Table) : Type 0 where
-  pub limit : table.most ≡ series_limit
-  pub few : length table.series ≤ series_limit
-  pub few_texts : length table.texts ≤ series_limit
 
 -- each series has a history, and each slot of the postings a series
 pub record IsWhole (table : Table) (columns : ℕ) (postings : Lists) : Type 0 where

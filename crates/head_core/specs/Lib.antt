@@ -1,16 +1,8 @@
-pub mod Owners
-pub mod Taken
-pub mod Counts
 pub mod Content
 pub mod Steps
 pub mod Resolved
 pub mod Validity
-pub mod Resolving
-pub mod Changes
-pub mod Links
-pub mod Ahead
 pub mod Applied
 pub mod Heads
 pub mod Room
 pub mod Draft
-pub mod Replays

@@ -9,12 +9,14 @@ use Rattle.head_series.specs.Texts.{place}
 use Rattle.head_series.specs.Table.{Labels, Table, slot_at, with_series}
 use Rattle.head_series.specs.Room as table_room
 use Rattle.head_postings.specs.Room as postings_room
-use Rattle.head_core.specs.declared.counts.Counts.{Counts}
-use Rattle.head_core.specs.Owners.{bindings}
-use Rattle.head_core.specs.Counts.{Fate, bound, accepted, stale, unknown, hides, empty_stone, unknown_stone, count_of_class}
-use Rattle.head_core.specs.Content.{Content, count_limit}
+use Rattle.head_resolver.specs.Room.{HaveCounts, HaveClasses, HaveExpired}
+use Rattle.head_resolver.specs.Owners.{bindings}
+use Rattle.head_resolver.specs.Counts.{Fate, bound, accepted, stale, unknown, hides, empty_stone, unknown_stone}
+use Rattle.head_resolver.specs.Limits.{count_limit}
+use Rattle.head_resolver.specs.Steps.{count_of_fate}
+use Rattle.head_core.specs.Content.{Content}
 use Rattle.head_core.specs.Heads.{ColumnRoom, HeadValue}
-use Rattle.head_core.specs.Steps.{count_of_fate, found, told, told_item}
+use Rattle.head_core.specs.Steps.{found, told, told_item}
 
 -- the label sets that the entries bind, in order, each as often as it is bound
 abbrev pub sets_of : List Entry → List Labels
@@ -53,19 +55,6 @@ pub record Made : Type 0 where
 -- the number of items that each column takes without allocating: first the columns of a head, then those that were made
 abbrev pub spares_with : ColumnRoom → Made → List ℕ
 spares_with r m = r.spares ++ map (λ c. c.spare) m.columns
-
--- No count passes its limit, whatever becomes of the entries.
-abbrev pub HaveCounts : Counts → List Entry → Type 0
-HaveCounts counts es = (f : Fate) → count_of_fate f counts + length es ≤ count_limit
-
--- No count of records passes its limit.
-abbrev pub HaveClasses : Counts → List WalRecord → Type 0
-HaveClasses counts rs = (r : WalRecord) → count_of_class r counts + length rs ≤ count_limit
-
--- No count of expired entries passes its limit, whatever number of the entries is expired.
-pub record HaveExpired (counts : Counts) (es : List Entry) : Type 0 where
-  pub samples : counts.expired_samples + length es ≤ count_limit
-  pub stones : counts.expired_stones + length es ≤ count_limit
 
 -- These entries can be taken in turn, with what was made for them, without allocating.
 pub record HasRoom (h : HeadValue) (m : Made) (es : List Entry) : Type 0 where

@@ -1,21 +1,15 @@
 -- The least valid time m, in milliseconds: what it leaves of the content of a head.
-use Rattle.std.specs.Prelude.{◌≡◌, ℤ, ◌≤ℤ◌, Bool, false, int_lt, map}
+use Rattle.std.specs.Prelude.{◌≡◌, ℤ, ◌≤ℤ◌, map}
 use Rattle.wal_record.specs.Entries.{Entry, series, sample, stone}
 use Rattle.wal_record.specs.Validity.{raised}
 use Rattle.head_column.specs.Validity.{history_from, latest_from}
-use Rattle.head_core.specs.declared.counts.Counts.{Counts}
+use Rattle.head_resolver.specs.declared.counts.Counts.{Counts}
 use Rattle.head_core.specs.Content.{Content}
 
 -- The content without the samples and the hidden times before m, which is then in force. The series, their references and postings, and
 -- the counts are unchanged.
 abbrev pub content_from : ℤ → Content → Content
 content_from m c = record c { histories = map (history_from m) c.histories; max_time = latest_from m c.max_time; min_valid = m }
-
--- whether the entry is expired
-abbrev pub is_expired : ℤ → Entry → Bool
-is_expired m (series e) = false
-is_expired m (sample s) = int_lt s.time m
-is_expired m (stone d) = int_lt d.max_time m
 
 -- the entry is not expired
 abbrev pub IsValidEntry : ℤ → Entry → Type 0

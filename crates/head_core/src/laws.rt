@@ -1,12 +1,11 @@
 //! Laws of the definitions. Each is a function that does nothing; its clauses are the law.
 
-ghost use Rattle.std.specs.Prelude.{◌≡◌, ◌≤ℤ◌, ◌++◌, ◌∷◌, [], ℕ, ℤ, List, None, Option, Some, filter, length, map, nat_eq, slice_get};
+ghost use Rattle.std.specs.Prelude.{◌≡◌, ◌≤ℤ◌, ◌++◌, ◌∷◌, [], ℕ, ℤ, List, None, Option, Some, filter, length, map, slice_get};
 ghost use Rattle.std.specs.List.{flat_map};
 ghost use Rattle.wal_record.specs.declared.record.WalRecord.{WalRecord as LogRecord};
 ghost use Rattle.wal_record.specs.Entries.{Entry, entries_of};
 ghost use Rattle.wal_record.specs.Labels.{same_labels};
 ghost use Rattle.wal_record.specs.Validity.{rewritten, valid_entry};
-ghost use Rattle.head_column.specs.declared.items.Item.{Item};
 ghost use Rattle.head_column.specs.Chunks.{chunks_of};
 ghost use Rattle.head_column.specs.Histories.{history_after, history_outcome, latest, no_history};
 ghost use Rattle.head_column.specs.Hours.{is_in_hour};
@@ -15,15 +14,12 @@ ghost use Rattle.head_series.specs.Bindings.{series_of};
 ghost use Rattle.head_series.specs.Table.{IsLeast, Labels, after, labels_at, slot_at};
 ghost use Rattle.head_series.specs.Texts.{Text, place};
 ghost use Rattle.head_postings.specs.Postings.{selected};
-ghost use Rattle.head_core.specs.Owners.{bindings};
-ghost use Rattle.head_core.specs.Taken.{Taken, taken_after, taken_of, taken_with};
-ghost use Rattle.head_core.specs.Counts.{counts_of, fate_at, items_of, known};
+ghost use Rattle.head_resolver.specs.Owners.{bindings};
+ghost use Rattle.head_resolver.specs.Taken.{Taken, taken_after, taken_of};
+ghost use Rattle.head_resolver.specs.Counts.{counts_of, fate_at};
+ghost use Rattle.head_resolver.specs.Resolved.{resolved, IsResolvable};
 ghost use Rattle.head_core.specs.Content.{AreAlike, AreHistoriesOf, Content, IsContentOf, IsShownBy, IsWithinLimits};
 ghost use Rattle.head_core.specs.Heads.{history_at};
-ghost use Rattle.head_core.specs.Resolved.{resolved, slot_behind, IsResolvable, IsResolved, ResolverValue};
-ghost use Rattle.head_core.specs.Changes.{slot_before, Change};
-ghost use Rattle.head_core.specs.Ahead.{AreSpreadAt, IsAhead};
-ghost use Rattle.head_core.specs.Steps.{no_counts};
 ghost use Rattle.head_core.specs.Validity.{HaveFates, IsValidEntry, content_from, entry_from};
 ghost use Rattle.head_core.specs.Applied.{AreCountsOfOutcomes, new_slots, outcomes_after, values_after};
 
@@ -63,16 +59,6 @@ pub fn alike_answers()
     ensures min_valid { (c d : Content) → AreAlike c d → d.min_valid ≡ c.min_valid }
 {}
 
-/// An item's slot stays its owner's slot, since later entries move no series. So the items that were resolved to a slot are those that
-/// the label set of the slot owns, in order.
-pub fn slots_stay()
-    ensures series { (es more : List Entry) → (later : List Labels) × (series_of (bindings (es ++ more)) ≡ series_of (bindings es) ++ later) }
-    ensures places { (es : List Entry) →
-        map {B = Option ℕ × Item} (λ k. (Some k.0, k.1)) (resolved es) ≡
-        map {B = Option ℕ × Item} (λ k. (place (same_labels k.0) (series_of (bindings es)), k.1)) (known es) }
-    ensures items { (es : List Entry) (s : ℕ) (l : Labels) → slice_get (series_of (bindings es)) s ≡ Some l → map (λ k. k.1) (filter (λ k. nat_eq s k.0) (resolved es)) ≡ items_of l es }
-{}
-
 /// Resolved items, applied in order to one new slot for each series, make the histories of the log's series, and their outcomes make its
 /// counts of outcomes. The counts are the same if only the greatest time of each series is kept (`tallied`).
 pub fn items_make_series()
@@ -91,23 +77,6 @@ pub fn items_make_series()
 pub fn limits_hold_before()
     ensures front { (m : ℤ) (rs more : List LogRecord) → IsWithinLimits (taken_of m (rs ++ more)) → IsWithinLimits (taken_of m rs) }
     ensures resolvable { (t : Taken) → IsWithinLimits t → IsResolvable t }
-{}
-
-/// What is taken of more records with the same least valid time is taken of all (`taken`).
-pub fn spread_records()
-    ensures taken { (m : ℤ) (rs more : List LogRecord) → taken_with m (taken_of m rs) more ≡ taken_of m (rs ++ more) }
-{}
-
-/// A window of records begins with none (`start`), and its records that bind nothing need no binding (`quiet`). Where its bindings were
-/// made ahead, a reference has at each place the slot that it has behind the records before that place (`places`). Where all of its records
-/// were taken, what was taken of the log is resolved (`done`). Of no records nothing is spread (`none`).
-pub fn spread_ahead()
-    ensures start { (t : Taken) (v : ResolverValue) → IsResolved t v → IsAhead t [] [] [] v }
-    ensures quiet { (t : Taken) (front back more : List LogRecord) (cs : List Change) (v : ResolverValue) → IsAhead t front back cs v → bindings (entries_of more) ≡ [] → IsAhead t front (back ++ more) cs v }
-    ensures places { (t : Taken) (front back : List LogRecord) (cs : List Change) (v : ResolverValue) → IsAhead t front back cs v → (before behind : List LogRecord) → front ++ back ≡ before ++ behind →
-        (r : ℕ) → slot_before cs (slot_at v.table) (length before) r ≡ slot_behind (entries_of (taken_with v.min_valid t before).kept) r }
-    ensures done { (t : Taken) (rs : List LogRecord) (cs : List Change) (v : ResolverValue) → IsAhead t rs [] cs v → IsResolved (taken_with v.min_valid t rs) v }
-    ensures none { (m : ℤ) (slots : ℕ → ℕ → Option ℕ) (n : ℕ) → AreSpreadAt m slots n [] [] no_counts }
 {}
 
 /// What a least valid time leaves of entries makes the content without the samples and the hidden times before it (`shown`), and the

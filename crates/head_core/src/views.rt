@@ -14,9 +14,9 @@ ghost use Rattle.head_postings.specs.Postings.{selected};
 ghost use Rattle.head_postings.specs.Slots.{IsAscending};
 ghost use Rattle.head_core.specs.Heads.{AreSlots, history_at};
 
-use crate::counts::Counts;
 use crate::head::Head;
 use head_column::{Chunk, Column, Hour, Run, Sample};
+use head_resolver::Counts;
 use head_series::Slot;
 use std::alloc::AllocError;
 use wal_record::LabelSet;

@@ -89,7 +89,7 @@ impl Error for TruncateFault {}
 
 impl From<HeadFault> for AppendFault {
     ghost use Rattle.std.specs.Prelude.{◌≡◌, ◌↔◌};
-    ghost use Rattle.head_core.specs.declared.fault.HeadFault.TheVariants as head;
+    ghost use Rattle.head_resolver.specs.declared.fault.HeadFault.TheVariants as head;
     ghost use Rattle.head_judging.specs.declared.fault.AppendFault.TheVariants.{Failed, Full, Memory};
 
     ghost from_gives = { λ h f. ((f ≡ Failed) ↔ (h ≡ head.Failed)) × ((f ≡ Full) ↔ (h ≡ head.Full)) × ((f ≡ Memory) ↔ (h ≡ head.Memory)) };

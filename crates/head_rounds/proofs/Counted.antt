@@ -8,11 +8,11 @@ use Rattle.std.proofs.lemmas.List.Sums.{sum_by-append, sum_by-cons}
 use Rattle.std.proofs.Math.Seq.{take-suc}
 use Rattle.head_column.specs.declared.items.Outcome.{Outcome}
 use Rattle.head_column.specs.declared.items.Outcome.TheVariants as outcome
-use Rattle.head_core.specs.declared.counts.Counts.{Counts}
-use Rattle.head_core.specs.Counts.{Fate, accepted, stale, hides, empty_stone, fate_of, is_fate}
-use Rattle.head_core.specs.Content.{AreCountsWithin}
-use Rattle.head_core.specs.Resolved.{with_outcomes}
-use Rattle.head_core.specs.Steps.{with_fate, count_of_fate}
+use Rattle.head_resolver.specs.declared.counts.Counts.{Counts}
+use Rattle.head_resolver.specs.Counts.{Fate, accepted, stale, hides, empty_stone, fate_of, is_fate}
+use Rattle.head_resolver.specs.Limits.{AreCountsWithin}
+use Rattle.head_resolver.specs.Resolved.{with_outcomes}
+use Rattle.head_resolver.specs.Steps.{with_fate, count_of_fate}
 use Rattle.head_core.specs.Applied.{AreCountsOfOutcomes}
 
 -- how many of these outcomes are of a fate

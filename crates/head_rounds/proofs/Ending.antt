@@ -10,7 +10,7 @@ use Rattle.head_deal.specs.Spreads.{dealt, dealt_all}
 use Rattle.head_deal.proofs.Steps.{slot_endings_more, job_endings_more}
 use Rattle.head_column.specs.declared.items.Item.{Item}
 use Rattle.head_column.specs.declared.items.Outcome.{Outcome}
-use Rattle.head_core.specs.declared.counts.Counts.{Counts}
+use Rattle.head_resolver.specs.declared.counts.Counts.{Counts}
 use Rattle.head_core.specs.Applied.{values_after, outcomes_after, AreCountsOfOutcomes}
 use Rattle.head_rounds.specs.Applying.{Ends}
 

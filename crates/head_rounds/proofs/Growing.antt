@@ -9,7 +9,7 @@ use Rattle.head_deal.specs.Endings.{item_at, told_of, with_outcome_of, outcomes}
 use Rattle.head_deal.specs.Dealing.{Dealing, course, end_slots, end_jobs}
 use Rattle.head_column.specs.declared.items.Item.{Item}
 use Rattle.head_column.specs.declared.items.Outcome.{Outcome}
-use Rattle.head_core.specs.declared.counts.Counts.{Counts}
+use Rattle.head_resolver.specs.declared.counts.Counts.{Counts}
 use Rattle.head_core.specs.Applied.{values_after, outcomes_after}
 use Rattle.head_rounds.specs.Applying.{Ends}
 

@@ -3,7 +3,7 @@ use Rattle.std.specs.Prelude.{◌≡◌, ◌++◌, ℕ, List}
 use Rattle.head_deal.specs.Dealing.{Dealing, course, end_slots, ending_outcomes}
 use Rattle.head_column.specs.declared.items.Item.{Item}
 use Rattle.head_column.specs.declared.items.Outcome.{Outcome}
-use Rattle.head_core.specs.declared.counts.Counts.{Counts}
+use Rattle.head_resolver.specs.declared.counts.Counts.{Counts}
 use Rattle.head_core.specs.Applied.{values_after, outcomes_after, AreCountsOfOutcomes}
 
 -- These items, applied to these slots one after another, make what the deal ends with. The counts are those of the outcomes that were

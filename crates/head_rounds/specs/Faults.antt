@@ -1,6 +1,6 @@
 -- Conversions of faults.
-use Rattle.head_core.specs.declared.fault.HeadFault.{HeadFault}
-use Rattle.head_core.specs.declared.fault.HeadFault.TheVariants as head
+use Rattle.head_resolver.specs.declared.fault.HeadFault.{HeadFault}
+use Rattle.head_resolver.specs.declared.fault.HeadFault.TheVariants as head
 use Rattle.head_crew.specs.declared.crew.CrewFault.{CrewFault}
 use Rattle.head_crew.specs.declared.crew.CrewFault.TheVariants as crew
 use Rattle.head_rounds.specs.declared.fault.RoundFault.{RoundFault}

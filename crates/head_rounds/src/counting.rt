@@ -4,8 +4,8 @@ ghost use Rattle.std.specs.Prelude.{◌≡◌, ◌++◌, Err, List, OnOk};
 ghost use Rattle.std.specs.List.{flat_map};
 ghost use Rattle.head_deal.specs.Endings.{outcomes};
 ghost use Rattle.head_column.specs.declared.items.Outcome.{Outcome as AnOutcome};
-ghost use Rattle.head_core.specs.declared.counts.Counts.{Counts as TheCounts};
-ghost use Rattle.head_core.specs.Content.{AreCountsWithin};
+ghost use Rattle.head_resolver.specs.declared.counts.Counts.{Counts as TheCounts};
+ghost use Rattle.head_resolver.specs.Limits.{AreCountsWithin};
 ghost use Rattle.head_core.specs.Applied.{AreCountsOfOutcomes};
 
 use head_column::{Item, Outcome};

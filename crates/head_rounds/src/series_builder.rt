@@ -2,9 +2,9 @@
 
 ghost use Rattle.std.specs.Prelude.{◌≡◌};
 ghost use Rattle.wal_record.specs.Entries.{entries_of};
-ghost use Rattle.head_core.specs.Taken.{Taken};
-ghost use Rattle.head_core.specs.Counts.{counts_of};
-ghost use Rattle.head_core.specs.Resolved.{resolved};
+ghost use Rattle.head_resolver.specs.Taken.{Taken};
+ghost use Rattle.head_resolver.specs.Counts.{counts_of};
+ghost use Rattle.head_resolver.specs.Resolved.{resolved};
 ghost use Rattle.head_core.specs.Applied.{AreCountsOfOutcomes, new_slots, outcomes_after};
 
 use head_column::{Column, Item, Outcome, Tally};

@@ -8,7 +8,7 @@ use Rattle.wal_log.specs.declared.reading.Placed.{Placed}
 use Rattle.wal_log.specs.Log.{contents}
 use Rattle.wal_scan.specs.Samples.{AreSamples}
 use Rattle.head_series.specs.Bindings.{Binding}
-use Rattle.head_core.specs.Owners.{binding, bindings}
+use Rattle.head_resolver.specs.Owners.{binding, bindings}
 use Rattle.head_spread.proofs.Windows.{contents_both}
 
 none_bound : (samples : List SampleEntry) → bindings (map sample samples) ≡ []

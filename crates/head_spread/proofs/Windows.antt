@@ -10,11 +10,11 @@ use Rattle.wal_log.specs.Log.{contents}
 use Rattle.head_column.specs.declared.items.Item.{Item}
 use Rattle.head_crew.specs.Jobs.{AreDone}
 use Rattle.head_series.specs.Table.{Table, slot_at}
-use Rattle.head_core.specs.declared.counts.Counts.{Counts}
-use Rattle.head_core.specs.Ahead.{AreSpreadAt}
-use Rattle.head_core.specs.Changes.{slot_before, Change}
-use Rattle.head_core.specs.Resolved.{ResolverValue}
-use Rattle.head_core.specs.Steps.{no_counts}
+use Rattle.head_resolver.specs.declared.counts.Counts.{Counts}
+use Rattle.head_resolver.specs.Ahead.{AreSpreadAt}
+use Rattle.head_resolver.specs.Changes.{slot_before, Change}
+use Rattle.head_resolver.specs.Resolved.{ResolverValue}
+use Rattle.head_resolver.specs.Steps.{no_counts}
 use Rattle.head_spread.specs.Records.{records_of}
 use Rattle.head_spread.specs.Shares.{AreMadeBy, ArePlaced, HasSpread, IsFreshJob, slots_of}
 use Rattle.head_spread.specs.Windows.{AreMadeOf, IsMadeOf}

@@ -6,9 +6,9 @@ use Rattle.wal_log.specs.declared.reading.Placed.{Placed}
 use Rattle.wal_log.specs.Log.{contents}
 use Rattle.head_crew.specs.Jobs.{AreDone}
 use Rattle.head_series.specs.Table.{slot_at}
-use Rattle.head_core.specs.Ahead.{AreSpreadAt}
-use Rattle.head_core.specs.Changes.{slot_before, Change}
-use Rattle.head_core.specs.Resolved.{ResolverValue}
+use Rattle.head_resolver.specs.Ahead.{AreSpreadAt}
+use Rattle.head_resolver.specs.Changes.{slot_before, Change}
+use Rattle.head_resolver.specs.Resolved.{ResolverValue}
 use Rattle.head_spread.specs.Records.{records_of}
 use Rattle.head_spread.specs.Windows.{IsFresh}
 use Rattle.head_spread.specs.declared.beside.Sharing.{Sharing}

@@ -2,8 +2,8 @@
 use Rattle.std.specs.Prelude.{◌≡◌, ℕ, ◌+◌, ℤ, List, [], ◌∷◌, ◌++◌, Option, length}
 use Rattle.wal_log.specs.declared.reading.Placed.{Placed}
 use Rattle.wal_log.specs.Log.{contents}
-use Rattle.head_core.specs.Ahead.{AreSpreadAt}
-use Rattle.head_core.specs.Steps.{no_counts}
+use Rattle.head_resolver.specs.Ahead.{AreSpreadAt}
+use Rattle.head_resolver.specs.Steps.{no_counts}
 use Rattle.head_spread.specs.declared.spreading.Spreading.{Spreading}
 
 -- what no records make, for so many workers

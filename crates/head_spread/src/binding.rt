@@ -3,10 +3,10 @@
 ghost use Rattle.std.specs.Prelude.{◌≡◌, ◌≤◌, ◌+◌, ◌++◌, [], ℕ, ℤ, List, Err, IfOk, OnOk, false, length};
 ghost use Rattle.wal_record.specs.declared.record.WalRecord.{WalRecord as LogRecord};
 ghost use Rattle.wal_log.specs.Log.{contents};
-ghost use Rattle.head_core.specs.Ahead.{IsAhead};
-ghost use Rattle.head_core.specs.Changes.{AreBelow};
+ghost use Rattle.head_resolver.specs.Ahead.{IsAhead};
+ghost use Rattle.head_resolver.specs.Changes.{AreBelow};
+ghost use Rattle.head_resolver.specs.Taken.{taken_of};
 ghost use Rattle.head_core.specs.Content.{IsWithinLimits};
-ghost use Rattle.head_core.specs.Taken.{taken_of};
 ghost use Rattle.head_spread.specs.Records.{records_of};
 
 use head_core::{Changes, HeadFault, Resolver, limits_hold_before, spread_ahead, spread_records};

@@ -6,8 +6,8 @@ ghost use Rattle.std.proofs.Props.{props};
 ghost use Rattle.wal_record.specs.declared.record.WalRecord.{WalRecord as LogRecord};
 ghost use Rattle.wal_log.specs.Log.{contents};
 ghost use Rattle.head_series.specs.Table.{slot_at};
-ghost use Rattle.head_core.specs.Ahead.{AreSpreadAt};
-ghost use Rattle.head_core.specs.Changes.{slot_before, AreBelow};
+ghost use Rattle.head_resolver.specs.Ahead.{AreSpreadAt};
+ghost use Rattle.head_resolver.specs.Changes.{slot_before, AreBelow};
 ghost use Rattle.head_spread.specs.Records.{records_of};
 ghost use Rattle.head_spread.specs.Windows.{IsFresh};
 

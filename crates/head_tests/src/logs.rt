@@ -3,8 +3,9 @@
 use crate::log_lines::{Log, NO_FILES, input_of};
 use crate::same;
 use crate::views::views;
-use head_core::{Counts, ReplayFault, replay_serial};
+use head_core::Counts;
 use head_replay::{NoGate, Options, Tallied, replay, tally};
+use head_serial::{ReplayFault, replay_serial};
 use std::alloc::Global;
 use std::process::Abort;
 use std::sync::Wait;

@@ -1,7 +1,8 @@
 //! Whole logs, read into heads.
 
 use crate::{one, same};
-use head_core::{Head, HeadFault, ReplayFault, Replayed, Run, Slot, replay_serial};
+use head_core::{Head, HeadFault, Run, Slot};
+use head_serial::{ReplayFault, Replayed, replay_serial};
 use std::alloc::{AllocError, Global};
 use std::process::Abort;
 use wal_log::{Checkpoint, Damage, Input, Segment};

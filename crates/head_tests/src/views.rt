@@ -1,7 +1,8 @@
 //! All that a head shows, as a text.
 
 use head_column::Hour;
-use head_core::{Head, ReplayFault, Slot, replay_serial};
+use head_core::{Head, Slot};
+use head_serial::{ReplayFault, replay_serial};
 use std::alloc::{AllocError, Global};
 use std::fmt::Debug;
 use wal_log::Input;

@@ -7,12 +7,13 @@ use Rattle.wal_record.specs.Validity.{valid}
 use Rattle.head_deal.specs.Dealing.{Dealing}
 use Rattle.head_column.specs.declared.items.Item.{Item}
 use Rattle.head_column.specs.declared.items.Outcome.{Outcome}
-use Rattle.head_core.specs.declared.counts.Counts.{Counts}
-use Rattle.head_core.specs.Taken.{taken_of}
-use Rattle.head_core.specs.Counts.{counts_of}
-use Rattle.head_core.specs.Changes.{AreBelow, Change}
-use Rattle.head_core.specs.Ahead.{IsAhead}
-use Rattle.head_core.specs.Resolved.{HaveOutcomes, ResolverValue, IsResolved, IsResolvable, resolved}
+use Rattle.head_resolver.specs.declared.counts.Counts.{Counts}
+use Rattle.head_resolver.specs.Taken.{taken_of}
+use Rattle.head_resolver.specs.Counts.{counts_of}
+use Rattle.head_resolver.specs.Changes.{AreBelow, Change}
+use Rattle.head_resolver.specs.Ahead.{IsAhead}
+use Rattle.head_resolver.specs.Resolved.{ResolverValue, IsResolved, IsResolvable, resolved}
+use Rattle.head_core.specs.Resolved.{HaveOutcomes}
 use Rattle.head_core.specs.Applied.{new_slots, values_after}
 use Rattle.head_rounds.specs.Applying.{Ends}
 

@@ -3,7 +3,7 @@ use Rattle.std.specs.Prelude.{ℤ, List}
 use Rattle.wal_record.specs.declared.record.WalRecord.{WalRecord}
 use Rattle.head_column.specs.declared.items.Item.{Item}
 use Rattle.head_column.specs.declared.items.Outcome.{Outcome}
-use Rattle.head_core.specs.Changes.{Change}
+use Rattle.head_resolver.specs.Changes.{Change}
 use Rattle.head_rounds.specs.Standing.{SeriesWords}
 use Rattle.head_windows.specs.Makes.{IsBuilt, IsBuiltAhead}
 use Rattle.head_windows.specs.declared.building.Building.{Building}

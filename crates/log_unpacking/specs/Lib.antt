@@ -1,3 +1,4 @@
 pub mod Unpacking
 pub mod Taking
 pub mod Same
+pub mod Texts

@@ -7,8 +7,11 @@
 mod fault;
 mod laws;
 mod pieces;
+mod sinks;
 mod unpacking;
 
 pub use fault::{UnpackDamage, UnpackFault};
 pub use laws::{one_unpacking, same_records};
-pub use unpacking::{Unpacked, UnpackedRecord, unpack_file};
+pub use unpacking::{
+    RecordCount, Unpacked, UnpackedRecord, UnpackedText, count_records, unpack_file, unpack_text,
+};

@@ -7,10 +7,10 @@ use Rattle.std.proofs.lemmas.Bool.{false≢true, true≢false, cases_Bool}
 use Rattle.prom_store.specs.Calls.{Call, CreateDir, Rename, SyncDir}
 use Rattle.prom_files.specs.Disk.{CanTake, CanTakeAll, Disk, File, IsAmong, MayLeave, MayRead, New, Old, Standing, after, after_all, disk_of, given, is_in, latest, led, no_bytes}
 use Rattle.prom_files.specs.Files.{file_calls}
-use Rattle.prom_files.specs.Folders.{AreInside, FileAt, IsWholeFolder, LeavesFolder, LeavesOldOrFolder, changed_paths, create_dirs, files_calls, is_inside, new_folder, sync_dirs, unfinished_folder}
+use Rattle.prom_files.specs.Folders.{AreInside, FileAt, IsWholeFolder, LeavesFolder, LeavesOld, LeavesOldOrFolder, changed_paths, create_dirs, files_calls, is_inside, new_folder, sync_dirs, unfinished_folder}
 use Rattle.prom_files.specs.Orders.{AreAll, AreFirst, IsRemoval}
 use Rattle.prom_files.proofs.Disks.{Keeps, after_both, all_then, all_weaker, among_has, can_take_both, first_keep, given_elsewhere, given_here, latest_synced, led_elsewhere, led_here, not_there, olds_kept, read_among, read_old, read_synced, run_keep, synced_one, whole}
-use Rattle.prom_files.proofs.Orders.{AreBehind, exactly, first_apart}
+use Rattle.prom_files.proofs.Orders.{AreBehind, are_first_of_more, exactly, first_apart}
 use Rattle.prom_files.proofs.Paths.{in_longer, inside_longer, longer_differs}
 
 -- ---- what was created
@@ -411,6 +411,13 @@ module _ (before : Standing) (parent path unfinished : List ℕ) (dirs : List (L
         others = λ name apart. old_left made leads left name leaves (kept name apart);
         leads_as = λ name apart. leads_to (after_all (disk_of before) made) leads left name (stood name) leaves (kept name apart);
       }
+
+  -- A crash at a moment before the rename leaves what stood there.
+  pub before_rename : (made : List Call) → AreFirst made (unfinished_folder unfinished dirs files) → CanTakeAll (disk_of before) made → (leads : List ℕ → Option File) (left : Standing)
+      → MayLeave (after_all (disk_of before) made) leads left → LeavesOld path unfinished dirs files before leads left
+  before_rename made first can leads left leaves =
+      let either = any_moment made (are_first_of_more made early late first) can leads left leaves in
+      record { folder = old_left made leads left path leaves (path_old made first); others = either.others; leads_as = either.leads_as }
 
   -- A crash behind all of it leaves the whole folder.
   pub acknowledged : is_in parent path ≡ true → (made : List Call) → AreAll made (new_folder parent path unfinished dirs files) → CanTakeAll (disk_of before) made → (leads : List ℕ → Option File) (left : Standing)

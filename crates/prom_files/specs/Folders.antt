@@ -64,3 +64,9 @@ pub record LeavesOldOrFolder (path unfinished : List ℕ) (dirs : List (List ℕ
 -- At the path stands the whole folder.
 pub record LeavesFolder (path unfinished : List ℕ) (dirs : List (List ℕ)) (files : List FileAt) (before : Standing) (leads : List ℕ → Option File) (left : Standing) : Type 0 where
   pub folder : IsWholeFolder path unfinished dirs files leads left
+
+-- At the path stands what stood there; and all else as before, but for the unfinished folder.
+pub record LeavesOld (path unfinished : List ℕ) (dirs : List (List ℕ)) (files : List FileAt) (before : Standing) (leads : List ℕ → Option File) (left : Standing) : Type 0 where
+  pub folder : left path ≡ before path
+  pub others : AreLeft (changed_paths path unfinished dirs files) before left
+  pub leads_as : LeadAsBefore (changed_paths path unfinished dirs files) before leads

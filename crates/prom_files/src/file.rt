@@ -11,17 +11,26 @@ use crate::target::Target;
 use prom_store::{Fault, Store, StoreFault};
 use std::alloc::Global;
 
-/// Creates a file, writes these bytes and syncs it.
-pub(crate) fn write_file<S: Store>(
-    store: &mut S,
-    path: &str,
-    bytes: &[u8],
-) -> Result<(), StoreFault>
+// Creates a file, writes these bytes and syncs it.
+fn write_file<S: Store>(store: &mut S, path: &str, bytes: &[u8]) -> Result<(), StoreFault>
     ensures { Follows S.did store.old (file_calls path.now bytes.now) result store.new }
 {
     let mut writer = store.create_new(path)?;
     store.write(&mut writer, bytes)?;
     store.sync_file(&mut writer)
+}
+
+/// Creates a file, writes these bytes and syncs it. Where a call fails, returns `CannotWrite` with the path, and what was written stays.
+pub fn write_synced<S: Store>(
+    alloc: Global,
+    store: &mut S,
+    path: &str,
+    bytes: &[u8],
+) -> Result<(), Fault>
+    ensures calls { Follows S.did store.old (file_calls path.now bytes.now) result store.new }
+    ensures told { IfErr result (λ fault. TellsUnwritten path.now fault) }
+{
+    written(alloc, path, write_file(store, path, bytes))
 }
 
 // Writes the unfinished file, renames it to the path, and syncs the directory.

@@ -1,12 +1,14 @@
 //! A new folder.
 
-ghost use Rattle.std.specs.Prelude.{IsOk, map, string_bytes};
+ghost use Rattle.std.specs.Prelude.{◌≡◌, ◌++◌, ◌∷◌, [], IsOk, map, string_bytes, true};
+ghost use Rattle.prom_store.specs.Calls.{CreateDir, Rename, SyncDir};
 ghost use Rattle.prom_files.specs.Crashes.{IsCrashSafe};
-ghost use Rattle.prom_files.specs.Folders.{AreInside, LeavesFolder, LeavesOldOrFolder, create_dirs as dirs_created, file_at, files_calls, new_folder, sync_dirs as dirs_synced, unfinished_folder};
+ghost use Rattle.prom_files.specs.Disk.{is_in};
+ghost use Rattle.prom_files.specs.Folders.{AreInside, LeavesFolder, LeavesOldOrFolder, create_dirs as dirs_created, file_at, files_calls, sync_dirs as dirs_synced};
 ghost use Rattle.prom_files.specs.Orders.{Follows};
 
 use crate::fault::written;
-use crate::file::write_file;
+use crate::file::write_synced;
 use crate::target::Target;
 use prom_store::{Fault, Store};
 use std::alloc::Global;
@@ -43,44 +45,69 @@ fn write_files<S: Store>(alloc: Global, store: &mut S, files: &[NewFile<'_>]) ->
     ensures { Follows S.did store.old (files_calls (map file_at files.now)) result store.new }
 {
     for file in files {
-        let path = file.path.as_str();
-        written(alloc, path, write_file(store, path, file.bytes))?;
+        write_synced(alloc, store, file.path.as_str(), file.bytes)?;
     }
     Ok(())
 }
 
-// Creates the unfinished folder and its directories, writes its files, and syncs all directories.
-fn fill_folder<S: Store>(
+/// Creates a folder and directories in it: the first part of a new folder, before its files. Where a call fails, returns `CannotWrite` with
+/// its path, and what was created stays.
+pub fn begin_folder<S: Store>(
     alloc: Global,
     store: &mut S,
     folder: &str,
     dirs: &[String],
-    files: &[NewFile<'_>],
 ) -> Result<(), Fault>
-    ensures { Follows S.did store.old (unfinished_folder folder.now (map string_bytes dirs.now) (map file_at files.now)) result store.new }
+    ensures { Follows S.did store.old (CreateDir folder.now ∷ dirs_created (map string_bytes dirs.now)) result store.new }
 {
     written(alloc, folder, store.create_dir(folder))?;
-    create_dirs(alloc, store, dirs)?;
-    write_files(alloc, store, files)?;
+    create_dirs(alloc, store, dirs)
+}
+
+// Syncs the directories in the unfinished folder, and then the folder.
+fn sync_folder<S: Store>(
+    alloc: Global,
+    store: &mut S,
+    folder: &str,
+    dirs: &[String],
+) -> Result<(), Fault>
+    ensures { Follows S.did store.old (dirs_synced (map string_bytes dirs.now) ++ SyncDir folder.now ∷ []) result store.new }
+{
     sync_dirs(alloc, store, dirs)?;
     written(alloc, folder, store.sync_dir(folder))
 }
 
-// Fills the unfinished folder, renames it to the path, and syncs the directory that it is in.
+// Renames the unfinished folder to the path, and syncs the directory that it is in.
 fn move_folder<S: Store>(
     alloc: Global,
     store: &mut S,
     parent: &str,
     path: &str,
     unfinished: &str,
-    dirs: &[String],
-    files: &[NewFile<'_>],
 ) -> Result<(), Fault>
-    ensures { Follows S.did store.old (new_folder parent.now path.now unfinished.now (map string_bytes dirs.now) (map file_at files.now)) result store.new }
+    ensures { Follows S.did store.old (Rename unfinished.now path.now ∷ SyncDir parent.now ∷ []) result store.new }
 {
-    fill_folder(alloc, store, unfinished, dirs, files)?;
     written(alloc, path, store.rename(unfinished, path))?;
     written(alloc, path, store.sync_dir(parent))
+}
+
+/// Finishes a folder that `begin_folder` began and whose files are written: syncs its directories and then the folder, renames it to the
+/// path, and syncs the directory that it is in last. Where a call fails, returns `CannotWrite` with its path, and the folder stays.
+///
+/// With `begin_folder` and the calls of `write_synced` before it, these are the calls of a new folder.
+pub fn finish_folder<S: Store>(
+    alloc: Global,
+    store: &mut S,
+    target: &Target<'_>,
+    dirs: &[String],
+) -> Result<(), Fault>
+    ensures calls { Follows S.did store.old (dirs_synced (map string_bytes dirs.now) ++ SyncDir target.now.unfinished ∷ Rename target.now.unfinished target.now.path ∷ SyncDir target.now.parent ∷ []) result store.new }
+    ensures inside { is_in target.now.parent target.now.path ≡ true }
+{
+    let path = target.path();
+    let unfinished = target.unfinished();
+    sync_folder(alloc, store, unfinished, dirs)?;
+    move_folder(alloc, store, target.parent(), path, unfinished)
 }
 
 /// Creates a folder with these directories and files. The unfinished folder is filled, its files and then its directories are synced, it is
@@ -99,7 +126,7 @@ pub fn write_new_folder<S: Store>(
     ensures crash { IsCrashSafe S.did store.old (LeavesOldOrFolder target.now.path target.now.unfinished (map string_bytes dirs.now) (map file_at files.now))
         (LeavesFolder target.now.path target.now.unfinished (map string_bytes dirs.now) (map file_at files.now)) (IsOk result) store.new }
 {
-    let path = target.path();
-    let unfinished = target.unfinished();
-    move_folder(alloc, store, target.parent(), path, unfinished, dirs, files)
+    begin_folder(alloc, store, target.unfinished(), dirs)?;
+    write_files(alloc, store, files)?;
+    finish_folder(alloc, store, target, dirs)
 }

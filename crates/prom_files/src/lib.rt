@@ -9,8 +9,8 @@ mod names;
 mod target;
 
 pub use fault::written;
-pub use file::write_new_file;
-pub use folder::{NewFile, write_new_folder};
+pub use file::{write_new_file, write_synced};
+pub use folder::{NewFile, begin_folder, finish_folder, write_new_folder};
 pub use laws::renamed_too_early;
 pub use names::{eight_digits, six_digits};
 pub use target::Target;

@@ -1,12 +1,12 @@
-//! Reads the write-ahead log of a time series database and prints what it holds, cuts an hour of it into a block, appends rows to it, or
-//! makes a checkpoint of it.
+//! Reads the write-ahead log of a time series database and prints what it holds, cuts an hour of it into a block, appends rows to it, makes
+//! a checkpoint of it, or writes it anew without compression.
 #![tactic(auto)]
 
 mod program;
 
 use crate::program::run;
 use prom_commands::{Answer, Meter};
-use prom_store::{Disk, Fault, LineFault, Status, Store};
+use prom_store::{Disk, LineFault, Status, Store};
 use std::env;
 use std::io::{ErrorKind, IsTerminal};
 use std::process::ExitCode;
@@ -34,10 +34,12 @@ fn refuse(rt: &impl Eprint, fault: &LineFault) -> Status {
     fault.status()
 }
 
-// Prints why a command failed, and on a terminal a second line with what is known beyond that. It does not allocate.
-fn complain(rt: &impl Eprint, fault: &Fault, is_terminal: bool) {
-    let _ = eprintln!(rt; "prom_head: {fault}");
-    if is_terminal && let Some(cause) = fault.cause() {
+// Prints why a command failed, and on a terminal a second line with what is known beyond that and what was printed. It does not allocate.
+fn complain(rt: &impl Eprint, answer: &Answer, is_terminal: bool) {
+    if let Some(fault) = &answer.fault {
+        let _ = eprintln!(rt; "prom_head: {fault}");
+    }
+    if is_terminal && let Some(cause) = &answer.cause {
         let _ = eprintln!(rt; "prom_head: {cause}");
     }
 }
@@ -50,9 +52,7 @@ fn show<R: Print + Eprint>(rt: &R, answer: &Answer, is_terminal: bool) -> Status
         }
         _ => {}
     }
-    if let Some(fault) = &answer.fault {
-        complain(rt, fault, is_terminal);
-    }
+    complain(rt, answer, is_terminal);
     answer.status
 }
 

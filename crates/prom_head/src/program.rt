@@ -9,6 +9,7 @@ use query_commands::{carry_out_analyze, carry_out_dump};
 use std::sync::Wait;
 use std::thread::Threads;
 use survey_commands::carry_out_inspect;
+use unpack_commands::carry_out_unpack;
 
 // Carries out what a command line asks for.
 fn carried_out<R: AllocGlobal + Threads + Wait + Sync, S: Store, P: Progress + Sync>(
@@ -30,6 +31,7 @@ fn carried_out<R: AllocGlobal + Threads + Wait + Sync, S: Store, P: Progress + S
         Asked::OfBlocks(request) => carry_out_block(rt, alloc, store, progress, request),
         Asked::Append(request) => carry_out_append(rt, alloc, store, progress, request),
         Asked::Checkpoint(request) => carry_out_checkpoint(alloc, store, request),
+        Asked::Unpack(request) => carry_out_unpack(alloc, store, request),
     }
 }
 

@@ -120,6 +120,18 @@ pub(crate) fn out<'a>(alloc: Global) -> Arg<'a> {
         .required(true)
 }
 
+pub(crate) fn new_log<'a>(alloc: Global) -> Arg<'a> {
+    Arg::new(alloc, "out")
+        .long("out")
+        .value_name("OUT")
+        .help("The directory that is made for the log")
+        .required(true)
+}
+
+pub(crate) fn through_damage<'a>(alloc: Global) -> Arg<'a> {
+    flag(alloc, "through-damage").help("Of a damaged log, write what is before the damage")
+}
+
 pub(crate) fn path<'a>(alloc: Global) -> Arg<'a> {
     Arg::new(alloc, "path")
         .value_name("PATH")

@@ -6,7 +6,7 @@ use clap::{ArgMatches, Command, Error};
 use head_replay::Options;
 use prom_store::{
     AnalyzeRequest, AppendRequest, BlockRequest, CheckpointRequest, CutRequest, DumpRequest,
-    InspectRequest, Request,
+    InspectRequest, Request, UnpackRequest,
 };
 use std::alloc::Global;
 
@@ -27,6 +27,8 @@ pub enum Asked<'a> {
     Append(AppendRequest<'a>),
     /// Make a checkpoint of a log.
     Checkpoint(CheckpointRequest<'a>),
+    /// Write a log anew without compression.
+    Unpack(UnpackRequest<'a>),
 }
 
 // Returns the options of replay. Where no least valid time is given, it is the least of all times, so that nothing is expired.
@@ -121,6 +123,14 @@ fn of_checkpoint<'a>(of: &ArgMatches<'a>) -> Option<CheckpointRequest<'a>> {
     })
 }
 
+fn of_unpack<'a>(of: &ArgMatches<'a>) -> Option<UnpackRequest<'a>> {
+    Some(UnpackRequest {
+        dir: of.get_str("dir")?,
+        out: of.get_str("out")?,
+        through_damage: of.get_flag("through-damage"),
+    })
+}
+
 fn of_others<'a>(matches: &ArgMatches<'a>) -> Option<Asked<'a>> {
     match matches.subcommand()? {
         ("inspect", of) => Some(Asked::Inspect(of_inspect(of)?)),
@@ -128,6 +138,7 @@ fn of_others<'a>(matches: &ArgMatches<'a>) -> Option<Asked<'a>> {
         ("dump", of) => Some(Asked::Dump(of_dump(of)?)),
         ("append", of) => Some(Asked::Append(of_append(of)?)),
         ("checkpoint", of) => Some(Asked::Checkpoint(of_checkpoint(of)?)),
+        ("unpack", of) => Some(Asked::Unpack(of_unpack(of)?)),
         _ => None,
     }
 }

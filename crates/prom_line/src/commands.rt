@@ -102,6 +102,12 @@ fn checkpoint<'a>(alloc: Global) -> Result<Command<'a>, AllocError> {
     also(command, min_valid(alloc).required(true))
 }
 
+fn unpack<'a>(alloc: Global) -> Result<Command<'a>, AllocError> {
+    let about = "Writes the log anew without compression, as the other commands read it";
+    let command = on_log(alloc, "unpack", about, texts::UNPACK);
+    also(also(command, new_log(alloc)), through_damage(alloc))
+}
+
 // Adds a subcommand. It is the one place where an unfinished command is dropped, which is dear to prove.
 fn with<'a>(
     command: Command<'a>,
@@ -117,6 +123,7 @@ pub(crate) fn program<'a>(alloc: Global) -> Result<Command<'a>, AllocError> {
         .version(VERSION)
         .subcommand_required(true);
     let command = with(command, inspect(alloc))?;
+    let command = with(command, unpack(alloc))?;
     let command = with(command, replay(alloc))?;
     let command = with(command, records(alloc))?;
     let command = with(command, series(alloc))?;

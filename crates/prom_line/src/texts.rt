@@ -40,6 +40,21 @@ Exit status:
   3  a file cannot be read
   4  out of memory";
 
+pub(crate) const UNPACK: &str = "\
+A server compresses its log by default. Writes the directory OUT, and nothing else: each file of
+the log under its own number, with the same records, none of them compressed. A crash leaves no
+half log: what was not finished stays as OUT.tmp, and you may remove it.
+
+Example:
+  prom_head unpack /var/lib/prometheus/metrics2/wal --out wal
+
+Exit status:
+  0  the log is on the device
+  1  the log is damaged: nothing was written, or, with --through-damage, what is before the damage
+  2  the command line is wrong
+  3  a file cannot be read or written
+  4  out of memory";
+
 pub(crate) const SERIES: &str = "\
 Writes nothing.
 
@@ -156,4 +171,5 @@ Exit status:
 
 pub(crate) const PROGRAM: &str = "\
 DIR is the directory `wal` of a server, under its data directory, or a copy of it. `prom_head
-help COMMAND` says what a command writes, with an example and its exit statuses.";
+help COMMAND` says what a command writes, with an example and its exit statuses. If the server
+compresses its log, as it does by default, begin with `unpack`.";

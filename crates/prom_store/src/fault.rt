@@ -77,6 +77,8 @@ pub enum Cause {
     Refused(Reason),
     /// The numbers of two files do not follow each other.
     Gap(NumberGap),
+    /// A record of the log is compressed.
+    Compressed,
 }
 
 impl fmt::Display for Cause {
@@ -84,6 +86,9 @@ impl fmt::Display for Cause {
         match self {
             Cause::Refused(reason) => fmt::Display::fmt(reason, f),
             Cause::Gap(gap) => fmt::Display::fmt(gap, f),
+            Cause::Compressed => f.write_str(
+                "`unpack` writes such a log anew, without compression",
+            ),
         }
     }
 }
@@ -194,13 +199,14 @@ impl Fault {
         }
     }
 
-    /// Returns what is known of the fault beyond its text: the reason of a refusal, or the numbers of a gap.
+    /// Returns what is known of the fault beyond its text: the reason of a refusal, the numbers of a gap, or that a record is compressed.
     pub fn cause(&self) -> Option<Cause> {
         match self {
             Fault::CannotRead { reason, .. } | Fault::CannotWrite { reason, .. } => {
                 Some(Cause::Refused(*reason))
             }
             Fault::Gap(gap) => Some(Cause::Gap((*gap)?)),
+            Fault::Damage(line) => line.cause(),
             _ => None,
         }
     }

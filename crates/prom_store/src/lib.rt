@@ -18,6 +18,6 @@ pub use paths::join;
 pub use reason::Reason;
 pub use requests::{
     AnalyzeRequest, AppendRequest, BlockRequest, CheckpointRequest, CutRequest, DumpRequest,
-    InspectRequest, Request,
+    InspectRequest, Request, UnpackRequest,
 };
 pub use store::{Store, StoreFault};

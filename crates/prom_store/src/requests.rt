@@ -96,3 +96,12 @@ pub struct DumpRequest<'a> {
     pub hidden: bool,
     pub options: Options,
 }
+
+/// A request to write the log in the directory `dir` into a new directory `out`, with its compressed records unpacked.
+#[derive(Clone, Copy, Debug, PartialEq, Eq)]
+pub struct UnpackRequest<'a> {
+    pub dir: &'a str,
+    pub out: &'a str,
+    /// Whether the records before the first damage are written, if the log is damaged.
+    pub through_damage: bool,
+}

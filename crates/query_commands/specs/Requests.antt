@@ -4,7 +4,7 @@ use Rattle.wal_log.specs.Inputs.{Files}
 use Rattle.wal_log.specs.declared.reading.Damage.{Damage}
 use Rattle.head_postings.specs.Postings.{selected}
 use Rattle.head_core.specs.Content.{Content}
-use Rattle.head_core.specs.Replays.{IsReplayed}
+use Rattle.head_serial.specs.Replays.{IsReplayed}
 use Rattle.prom_store.specs.Views.{View}
 use Rattle.prom_commands.specs.Directory.{IsLogIn}
 use Rattle.prom_commands.specs.Spellings.{SpellsPair}

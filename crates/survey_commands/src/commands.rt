@@ -38,6 +38,7 @@ fn execute<S: Store>(alloc: Global, store: &S, dir: &str, json: bool) -> Result<
     Ok(Answer {
         printed: text,
         fault: None,
+        cause: None,
         status: status_of(&remarks),
     })
 }

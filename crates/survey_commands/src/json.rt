@@ -109,7 +109,9 @@ fn put_file(
 ) -> Result<(), AllocError> {
     put_name(members, alloc, file.in_checkpoint, file.number)?;
     put_size(members, alloc, file.bytes, file.pages)?;
-    put_survey(members, alloc, &file.survey)
+    put_survey(members, alloc, &file.survey)?;
+    let unpacked = file.unpacked.map_or(Value::Null, Value::from);
+    put(members, alloc, "unpacked", unpacked)
 }
 
 fn file_value(alloc: Global, file: &FileSurvey) -> Result<Value, AllocError> {

@@ -56,15 +56,23 @@ fn push_types(text: &mut String, skipped: &[SkippedCount]) -> Result<(), AllocEr
 
 fn push_damage(text: &mut String, damage: Option<Damage>) -> Result<(), AllocError> {
     let Some(damage) = damage else {
-        return text.push_str(" damage none\n");
+        return text.push_str(" damage none");
     };
     let (offset, number, name) = (
         damage.place.offset,
         damage.kind.number(),
         damage.kind.name(),
     );
-    writeln!(text, " damage offset {offset} kind {number} {name}")?;
+    write!(text, " damage offset {offset} kind {number} {name}")?;
     Ok(())
+}
+
+// Ends the line of a file: with the number of its records, if some are compressed.
+fn push_unpacked(text: &mut String, records: Option<u64>) -> Result<(), AllocError> {
+    match records {
+        Some(records) => writeln!(text, " unpacked {records}"),
+        None => text.push('\n'),
+    }
 }
 
 // Appends the line of a file: its length, its records and their entries by kind, its times and its damage.
@@ -78,7 +86,8 @@ fn push_file(text: &mut String, file: &FileSurvey) -> Result<(), AllocError> {
     write!(text, " skipped {}", skipped_records(&survey.skipped)?)?;
     push_types(text, &survey.skipped)?;
     push_times(text, survey.times)?;
-    push_damage(text, survey.damage)
+    push_damage(text, survey.damage)?;
+    push_unpacked(text, file.unpacked)
 }
 
 // Appends the line of all files together.
@@ -158,7 +167,8 @@ fn push_unbound(
 
 const TORN: &str = "as a crash leaves it, and that record is lost";
 
-const COMPRESSED: &str = "it was not read, nor what follows in the file";
+const COMPRESSED: &str =
+    "it was not read, nor what follows in the file: `unpack` reads such records";
 
 const DAMAGED: &str = "what follows in the file was not read";
 

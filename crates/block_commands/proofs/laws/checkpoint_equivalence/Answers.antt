@@ -1,6 +1,6 @@
 use Rattle.std.proofs.Common.{List, sym, subst, ap, ◌∙◌}
 use Rattle.wal_record.specs.declared.record.WalRecord.{WalRecord}
-use Rattle.head_core.specs.Taken.{taken_of}
+use Rattle.head_resolver.specs.Taken.{taken_of}
 use Rattle.head_core.specs.Content.{IsContentOf}
 use Rattle.block_commands.proofs.laws.checkpoint_equivalence.Goals as goal
 

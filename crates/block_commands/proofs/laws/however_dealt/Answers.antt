@@ -1,7 +1,7 @@
 use Rattle.std.proofs.Common.{List, sym, subst, ◌∙◌}
 use Rattle.wal_log.specs.declared.reading.Placed.{Placed}
 use Rattle.wal_log.specs.Log.{contents}
-use Rattle.head_core.specs.Taken.{taken_of}
+use Rattle.head_resolver.specs.Taken.{taken_of}
 use Rattle.head_core.specs.Content.{IsContentOf}
 use Rattle.block_commands.proofs.laws.however_dealt.Goals as goal
 

@@ -3,7 +3,7 @@ use Rattle.wal_record.specs.Labels.{Labels}
 use Rattle.wal_log.specs.declared.reading.Placed.{Placed}
 use Rattle.wal_log.specs.Log.{contents}
 use Rattle.head_column.specs.Histories.{History}
-use Rattle.head_core.specs.Taken.{taken_of}
+use Rattle.head_resolver.specs.Taken.{taken_of}
 use Rattle.head_core.specs.Content.{AreAlike, Content, IsContentOf}
 use Rattle.block_read.specs.declared.rows.BlockRow.{BlockRow}
 use Rattle.block_read.specs.Blocks.{block_text}

@@ -1,7 +1,7 @@
 use Rattle.std.proofs.Common.{rules, ◌≡◌, ◌++◌, Err, List, take, subst, arith}
 use Rattle.std.proofs.Math.Seq.{take-length}
 use Rattle.head_column.specs.declared.items.Outcome.{Outcome}
-use Rattle.head_core.specs.declared.fault.HeadFault.TheVariants.{Full}
+use Rattle.head_resolver.specs.declared.fault.HeadFault.TheVariants.{Full}
 use Rattle.head_core.specs.Applied.{AreCountsOfOutcomes}
 use Rattle.head_rounds.proofs.Counted.{counted_more, over_at}
 use Rattle.head_rounds.proofs.counting.count_outcomes.Goals as goal

@@ -4,7 +4,7 @@ use Rattle.std.specs.List.{flat_map}
 use Rattle.std.proofs.lemmas.List.{append-nil, take_all}
 use Rattle.head_deal.specs.Endings.{outcomes}
 use Rattle.head_column.specs.declared.items.Outcome.{Outcome}
-use Rattle.head_core.specs.declared.fault.HeadFault.TheVariants.{Full}
+use Rattle.head_resolver.specs.declared.fault.HeadFault.TheVariants.{Full}
 use Rattle.head_core.specs.Applied.{AreCountsOfOutcomes}
 use Rattle.head_rounds.proofs.Counted.{parts_more, parts_split}
 use Rattle.head_rounds.proofs.counting.count_parts.Goals as goal

@@ -1,5 +1,5 @@
 use Rattle.std.proofs.Common.{rules, ◌≡◌, ◌∙◌, ◌++◌, Err, List, sym, subst}
-use Rattle.head_core.specs.declared.fault.HeadFault.TheVariants as head
+use Rattle.head_resolver.specs.declared.fault.HeadFault.TheVariants as head
 use Rattle.head_column.specs.declared.items.Outcome.{Outcome}
 use Rattle.head_core.specs.Applied.{AreCountsOfOutcomes}
 use Rattle.head_rounds.proofs.rounds.end_deal.Goals as goal

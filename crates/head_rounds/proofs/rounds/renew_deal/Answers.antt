@@ -2,7 +2,7 @@ use Rattle.std.proofs.Common.{rules, ◌≡◌, ◌∙◌, ◌++◌, Err, List, 
 use Rattle.std.specs.List.{flat_map}
 use Rattle.head_deal.specs.Dealing.{course, ending_outcomes}
 use Rattle.head_deal.specs.Endings.{outcomes}
-use Rattle.head_core.specs.declared.fault.HeadFault.TheVariants as head
+use Rattle.head_resolver.specs.declared.fault.HeadFault.TheVariants as head
 use Rattle.head_column.specs.declared.items.Outcome.{Outcome}
 use Rattle.head_core.specs.Applied.{AreCountsOfOutcomes}
 use Rattle.head_rounds.proofs.Counted.{Alike, alike_back, alike_before, alike_behind, counts_alike}

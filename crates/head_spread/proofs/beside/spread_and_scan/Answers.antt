@@ -9,8 +9,8 @@ use Rattle.series_references.proofs.reference_slots.ReferenceSlots.TheSendSync a
 use Rattle.head_series.proofs.rows.Row.TheSendSync as Row
 use Rattle.series_references.specs.contracts.references.References as References
 use Rattle.head_series.specs.contracts.table.SeriesTable as SeriesTable
-use Rattle.head_core.proofs.changes.Changes.TheSendSync as Changes
-use Rattle.head_core.specs.contracts.resolver.Resolver as Resolver
+use Rattle.head_resolver.proofs.changes.Changes.TheSendSync as Changes
+use Rattle.head_resolver.specs.contracts.resolver.Resolver as Resolver
 use Rattle.head_spread.proofs.spreading.Spreading.TheSendSync as Spreading
 use Rattle.head_spread.proofs.beside.spread_and_scan.Goals as goal
 

@@ -3,10 +3,10 @@ use Rattle.std.proofs.lemmas.List.{take_all, take_more}
 use Rattle.wal_record.specs.declared.record.WalRecord.{WalRecord}
 use Rattle.wal_log.specs.declared.reading.Placed.{Placed}
 use Rattle.wal_log.specs.Log.{contents}
-use Rattle.head_core.specs.Ahead.{IsAhead}
+use Rattle.head_resolver.specs.Ahead.{IsAhead}
+use Rattle.head_resolver.specs.Taken.{taken_of}
+use Rattle.head_resolver.specs.declared.fault.HeadFault.TheVariants.{Full}
 use Rattle.head_core.specs.Content.{IsWithinLimits}
-use Rattle.head_core.specs.Taken.{taken_of}
-use Rattle.head_core.specs.declared.fault.HeadFault.TheVariants.{Full}
 use Rattle.head_spread.specs.Records.{records_of}
 use Rattle.head_spread.proofs.Said.{length_said, pages_more, pages_next}
 use Rattle.head_spread.proofs.Windows.{records_push}

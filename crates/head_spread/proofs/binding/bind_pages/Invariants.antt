@@ -1,9 +1,9 @@
 use Rattle.std.proofs.Common.{◌≡◌, ◌≤◌, [], ℕ, ℤ, List, false, length, take}
 use Rattle.wal_record.specs.declared.record.WalRecord.{WalRecord}
 use Rattle.wal_log.specs.Log.{contents}
-use Rattle.head_core.specs.Ahead.{IsAhead}
-use Rattle.head_core.specs.Changes.{AreBelow}
-use Rattle.head_core.specs.Taken.{taken_of}
+use Rattle.head_resolver.specs.Ahead.{IsAhead}
+use Rattle.head_resolver.specs.Changes.{AreBelow}
+use Rattle.head_resolver.specs.Taken.{taken_of}
 use Rattle.head_spread.specs.Records.{records_of}
 use Rattle.head_spread.proofs.binding.bind_pages.Given as goal
 

@@ -3,11 +3,11 @@ use Rattle.std.proofs.lemmas.List.{take_all, take_more}
 use Rattle.wal_record.specs.declared.record.WalRecord.{WalRecord}
 use Rattle.wal_log.specs.declared.reading.Placed.{Placed}
 use Rattle.wal_log.specs.Log.{contents}
-use Rattle.head_core.specs.Ahead.{IsAhead}
+use Rattle.head_resolver.specs.Ahead.{IsAhead}
+use Rattle.head_resolver.specs.Resolved.{IsResolvable}
+use Rattle.head_resolver.specs.Taken.{taken_of}
+use Rattle.head_resolver.specs.declared.fault.HeadFault.TheVariants.{Full}
 use Rattle.head_core.specs.Content.{IsWithinLimits}
-use Rattle.head_core.specs.Resolved.{IsResolvable}
-use Rattle.head_core.specs.Taken.{taken_of}
-use Rattle.head_core.specs.declared.fault.HeadFault.TheVariants.{Full}
 use Rattle.head_spread.proofs.Said.{contents_more, contents_next, length_so_far, taken_window}
 use Rattle.head_spread.proofs.binding.bind_records.Goals as goal
 

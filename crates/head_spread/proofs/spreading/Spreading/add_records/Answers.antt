@@ -5,7 +5,7 @@ use Rattle.std.proofs.lemmas.List.{append-nil, length-map}
 use Rattle.wal_record.specs.declared.record.WalRecord.{WalRecord}
 use Rattle.wal_log.specs.declared.reading.Placed.{Placed}
 use Rattle.wal_log.specs.Log.{contents}
-use Rattle.head_core.specs.Ahead.{AreSpreadAt}
+use Rattle.head_resolver.specs.Ahead.{AreSpreadAt}
 use Rattle.head_spread.specs.Shares.{slots_of}
 use Rattle.head_spread.proofs.Windows.{contents_both}
 use Rattle.head_spread.proofs.spreading.Spreading.add_records.Goals as goal

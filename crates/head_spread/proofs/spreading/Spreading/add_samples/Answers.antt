@@ -3,7 +3,7 @@ use Rattle.std.specs.Result.{result_ok}
 use Rattle.std.proofs.lemmas.List.{append-nil}
 use Rattle.wal_record.specs.declared.record.WalRecord.{WalRecord}
 use Rattle.wal_record.specs.declared.record.WalRecord.TheVariants.{Samples}
-use Rattle.head_core.specs.Ahead.{AreSpreadAt}
+use Rattle.head_resolver.specs.Ahead.{AreSpreadAt}
 use Rattle.head_spread.specs.Shares.{slots_of}
 use Rattle.head_spread.proofs.spreading.Spreading.add_samples.Goals as goal
 

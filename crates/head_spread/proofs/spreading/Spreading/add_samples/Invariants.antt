@@ -1,7 +1,7 @@
 use Rattle.std.proofs.Common.{◌≡◌, ℕ, ◌+◌, ◌++◌, List, length}
 use Rattle.wal_record.specs.declared.record.WalRecord.{WalRecord}
 use Rattle.wal_log.specs.Log.{contents}
-use Rattle.head_core.specs.Ahead.{AreSpreadAt}
+use Rattle.head_resolver.specs.Ahead.{AreSpreadAt}
 use Rattle.head_spread.specs.Shares.{slots_of}
 use Rattle.head_spread.proofs.spreading.Spreading.add_samples.Given as goal
 

@@ -3,7 +3,7 @@ use Rattle.std.specs.Vec.Iter.{into_iter_items}
 use Rattle.wal_record.specs.declared.record.WalRecord.{WalRecord}
 use Rattle.wal_log.specs.declared.reading.Placed.{Placed}
 use Rattle.wal_log.specs.Log.{contents}
-use Rattle.head_core.specs.Changes.{Change}
+use Rattle.head_resolver.specs.Changes.{Change}
 use Rattle.head_spread.specs.Shares.{slots_of}
 use Rattle.head_windows.specs.Standing.{HasBuiltAheadBy}
 use Rattle.head_spread.specs.Windows.{AreMadeOf}

@@ -5,14 +5,14 @@ use Rattle.wal_record.specs.declared.record.WalRecord.{WalRecord}
 use Rattle.wal_record.specs.Entries.{entries_of}
 use Rattle.wal_record.specs.Validity.{valid}
 use Rattle.head_column.specs.declared.items.Item.{Item}
-use Rattle.head_core.specs.declared.fault.HeadFault.TheVariants as head
-use Rattle.head_core.specs.Ahead.{IsAhead}
+use Rattle.head_resolver.specs.declared.fault.HeadFault.TheVariants as head
+use Rattle.head_resolver.specs.Ahead.{IsAhead}
+use Rattle.head_resolver.specs.Changes.{AreBelow}
+use Rattle.head_resolver.specs.Counts.{counts_of}
+use Rattle.head_resolver.specs.Resolved.{IsResolvable, IsResolved, resolved}
+use Rattle.head_resolver.specs.Taken.{Taken, taken_of}
 use Rattle.head_core.specs.Applied.{outcomes_after, AreCountsOfOutcomes}
-use Rattle.head_core.specs.Changes.{AreBelow}
 use Rattle.head_core.specs.Content.{IsWithinLimits}
-use Rattle.head_core.specs.Counts.{counts_of}
-use Rattle.head_core.specs.Resolved.{IsResolvable, IsResolved, resolved}
-use Rattle.head_core.specs.Taken.{Taken, taken_of}
 use Rattle.head_rounds.specs.Applying.{Ends}
 use Rattle.head_spread.proofs.Said.{taken_window}
 use Rattle.head_windows.proofs.Ahead.{more_items, more_low, window_items, window_long, window_split}

@@ -1,6 +1,0 @@
-use Rattle.std.proofs.Common.{ℕ, ◌+◌, ◌<◌, ◌≤◌, get_or}
-use Rattle.head_core.specs.Content.{count_limit}
-use Rattle.head_core.proofs.counts.all_fit.Given as goal
-
-abbrev pub invariant-loop-count : goal.invariant-loop-count
-invariant-loop-count l = (k d : ℕ) → k < l.count-index → get_or l.counts k d + l.more ≤ count_limit

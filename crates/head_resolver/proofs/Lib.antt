@@ -1,0 +1,17 @@
+pub mod Counting
+pub mod Lists
+pub mod Known
+pub mod Entries
+pub mod Validity
+pub mod Limits
+pub mod Whole
+pub mod Resolving
+pub mod ResolvingValid
+pub mod Records
+pub mod Sums
+pub mod Linking
+pub mod Slots
+pub mod Windows
+pub mod SpreadAhead
+pub mod BindingAhead
+pub mod CountRoom

@@ -1,0 +1,12 @@
+pub mod Owners
+pub mod Taken
+pub mod Counts
+pub mod Limits
+pub mod Steps
+pub mod Resolved
+pub mod Validity
+pub mod Resolving
+pub mod Changes
+pub mod Links
+pub mod Ahead
+pub mod Room

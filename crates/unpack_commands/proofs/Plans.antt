@@ -1,0 +1,68 @@
+-- A planned log, unpacked, is the log of its plan.
+use Rattle.std.specs.Prelude.{◌≡◌, ℕ, Bool, true, List, Option, None, Some, map}
+use Rattle.std.specs.Path.{path_join}
+use Rattle.std.proofs.Common.{ap, inl, inr, subst, sym, ◌∙◌}
+use Rattle.wal_log.specs.declared.input.Checkpoint.{Checkpoint}
+use Rattle.wal_log.specs.declared.input.Segment.{Segment}
+use Rattle.wal_log.specs.Plan.{IsPlan, NumberedName, named as name_of}
+use Rattle.prom_store.specs.Calls.{Call}
+use Rattle.prom_store.specs.Found.{Found}
+use Rattle.prom_store.specs.Views.{View}
+use Rattle.prom_store.specs.declared.requests.UnpackRequest.{UnpackRequest}
+use Rattle.unpack_commands.specs.declared.planned.PlannedCheckpoint.{PlannedCheckpoint}
+use Rattle.unpack_commands.specs.declared.planned.PlannedLog.{PlannedLog}
+use Rattle.unpack_commands.specs.declared.reading.FileDamage.{FileDamage}
+use Rattle.unpack_commands.specs.Folders.{IsOut, Unpacks, WritesUnpacked}
+use Rattle.unpack_commands.specs.Logs.{AreUnpackedIn, IsUnpackedCheckpoint, IsUnpackedLogIn, IsUnpackedPlan, seen_since}
+use Rattle.unpack_commands.specs.Steps.{AreUnpackedOf, IsUnpackedFrom, UnpacksInto, with_files}
+use Rattle.prom_files.proofs.Safety.{for_less}
+use Rattle.unpack_commands.specs.Folders.{LeavesLog, LeavesOldOrLog}
+
+module _ (view : View) (log : PlannedLog) (c : Option Checkpoint) (segments : List Segment) (damage : Option FileDamage) where
+  -- without a checkpoint
+  pub planned_alone : log.checkpoint ≡ None → IsUnpackedFrom view log c segments damage → IsUnpackedPlan view log.dir.now None (map name_of log.segments.now) c segments damage
+  planned_alone none (inner, is, from) = record {
+    first = from.first;
+    checkpoint_is = subst (λ (x : Option Checkpoint). IsUnpackedCheckpoint view log.dir.now None x from.first) (sym (is ∙ ap (λ p. with_files p inner) none)) (subst (λ p. AreUnpackedOf view p inner from.first) none from.inner_are);
+    segments_are = from.segments_are;
+  }
+
+  -- with a checkpoint whose directory has these names
+  pub planned_with : (planned : NumberedName) (inside : PlannedCheckpoint) (names : List (List ℕ)) → log.checkpoint ≡ Some inside → inside.number ≡ planned.number → inside.dir.now ≡ path_join log.dir.now planned.name
+      → view.names inside.dir.now names → IsPlan None names (map name_of inside.names.now) → IsUnpackedFrom view log c segments damage → IsUnpackedPlan view log.dir.now (Some planned) (map name_of log.segments.now) c segments damage
+  planned_with planned inside names some number dir listed plan (inner, is, from) = record {
+    first = from.first;
+    checkpoint_is = subst (λ (x : Option Checkpoint). IsUnpackedCheckpoint view log.dir.now (Some planned) x from.first) (sym (is ∙ ap (λ p. with_files p inner) some)) (
+      number,
+      record {
+        names = names;
+        listed = subst (λ d. view.names d names) dir listed;
+        plan = map name_of inside.names.now;
+        planned = plan;
+        each = subst (λ d. AreUnpackedIn view d true (map name_of inside.names.now) inner from.first) dir (subst (λ p. AreUnpackedOf view p inner from.first) some from.inner_are);
+      },
+    );
+    segments_are = from.segments_are;
+  }
+
+module _ {S : Type 0} (did : S → List Call → S → Type 0) (old : S) (path : List ℕ) (P Q : Option Checkpoint → List Segment → Option FileDamage → Type 0) (more : (c : Option Checkpoint) (s : List Segment) (d : Option FileDamage) → P c s d → Q c s d) (through_damage : Bool) (W : Type 0) (new : S) where
+  pub writes_weaker : WritesUnpacked did old path P through_damage W new → WritesUnpacked did old path Q through_damage W new
+  writes_weaker (inl (c, s, d, is, whole, unasked, wrote)) = inl (c, s, d, more c s d is, whole, unasked, wrote)
+  writes_weaker (inr up) = inr up
+
+  pub into_weaker : UnpacksInto did old path P through_damage W new → UnpacksInto did old path Q through_damage W new
+  into_weaker (inl none) = inl none
+  into_weaker (inr writes) = inr (writes_weaker writes)
+
+module _ {S : Type 0} (did : S → List Call → S → Type 0) (holds : S → List ℕ → Found → Type 0) (old : S) (request : UnpackRequest) (new : S) where
+  -- with the path that it was to be written to
+  pub unpacks_out : (path : List ℕ) (W : Type 0) → IsOut request.out.now path → UnpacksInto did old path (IsUnpackedLogIn (seen_since did holds old) request.dir.now) request.through_damage W new → Unpacks did holds old request W new
+  unpacks_out path W out (inl none) = inl none
+  unpacks_out path W out (inr writes) = inr (path, out, writes)
+
+  -- less is known of whether all went well
+  pub unpacks_less : (W V : Type 0) → (V → W) → Unpacks did holds old request W new → Unpacks did holds old request V new
+  unpacks_less W V less (inl (same, fails)) = inl (same, λ well. fails (less well))
+  unpacks_less W V less (inr (path, out, inl (c, s, d, is, whole, unasked, wrote))) =
+      inr (path, out, inl (c, s, d, is, (λ well. whole (less well)), unasked, for_less did old (LeavesOldOrLog path c s) (LeavesLog path c s) new V W less wrote))
+  unpacks_less W V less (inr (path, out, inr (up, fails))) = inr (path, out, inr (up, λ well. fails (less well)))

@@ -1,0 +1,98 @@
+-- The folder of an unpacked log, and what a crash leaves where it is written.
+use Rattle.std.specs.Prelude.{◌≡◌, ◌⊎◌, ℕ, Bool, false, List, [], ◌∷◌, ◌++◌, Option, None, Some, codes, map}
+use Rattle.std.specs.Path.{path_file_name, path_join, path_parent}
+use Rattle.wal_log.specs.declared.input.Checkpoint.{Checkpoint}
+use Rattle.wal_log.specs.declared.input.Segment.{Segment}
+use Rattle.prom_store.specs.Calls.{Call}
+use Rattle.prom_store.specs.Found.{Found}
+use Rattle.prom_store.specs.declared.requests.UnpackRequest.{UnpackRequest}
+use Rattle.prom_files.specs.Crashes.{IsCrashSafe}
+use Rattle.prom_files.specs.Disk.{File, Standing}
+use Rattle.prom_files.specs.Folders.{FileAt, LeavesFolder, LeavesOld, LeavesOldOrFolder}
+use Rattle.prom_files.specs.Targets.{unfinished_of, zero_filled}
+use Rattle.unpack_commands.specs.declared.reading.FileDamage.{FileDamage}
+use Rattle.unpack_commands.specs.Logs.{IsUnpackedLogIn, seen_since}
+
+-- files in a folder, each under its number
+abbrev pub files_in : List ℕ → List Segment → List FileAt
+files_in folder segments = map (λ (s : Segment). record { path = path_join folder (zero_filled 8 s.number); bytes = s.bytes }) segments
+
+-- the name of the checkpoint of this number
+abbrev pub checkpoint_name : ℕ → List ℕ
+checkpoint_name number = codes "checkpoint." ++ zero_filled 8 number
+
+-- the path of the checkpoint of this number in a folder
+abbrev pub checkpoint_in : List ℕ → ℕ → List ℕ
+checkpoint_in folder number = path_join folder (checkpoint_name number)
+
+-- the directories in the folder of a log: that of its checkpoint, if there is one
+abbrev pub log_dirs : List ℕ → Option Checkpoint → List (List ℕ)
+log_dirs folder None = []
+log_dirs folder (Some c) = checkpoint_in folder c.number ∷ []
+
+-- the files of the checkpoint in the folder of a log, if there is one
+abbrev pub checkpoint_files : List ℕ → Option Checkpoint → List FileAt
+checkpoint_files folder None = []
+checkpoint_files folder (Some c) = files_in (checkpoint_in folder c.number) c.files
+
+-- the files in the folder of a log: those of its checkpoint, then its segments
+abbrev pub log_files : List ℕ → Option Checkpoint → List Segment → List FileAt
+log_files folder checkpoint segments = checkpoint_files folder checkpoint ++ files_in folder segments
+
+-- the directory that a path is in: that of the program for a name alone
+abbrev pub parent_or_here : List ℕ → List ℕ
+parent_or_here [] = codes "."
+parent_or_here (c ∷ parent) = c ∷ parent
+
+-- The path is that of a name in a directory.
+pub record IsOut (out path : List ℕ) : Type 0 where
+  pub parent : List ℕ
+  pub name : List ℕ
+  pub parent_is : path_parent out ≡ Some parent
+  pub name_is : path_file_name out ≡ Some name
+  pub path_is : path ≡ path_join (parent_or_here parent) name
+
+-- At the path stands what stood there, or a folder with this log; and all else as before, but for the unfinished folder.
+abbrev pub LeavesOldOrLog : List ℕ → Option Checkpoint → List Segment → Standing → (List ℕ → Option File) → Standing → Type 0
+LeavesOldOrLog path checkpoint segments =
+    let folder = unfinished_of path in
+    LeavesOldOrFolder path folder (log_dirs folder checkpoint) (log_files folder checkpoint segments)
+
+-- At the path stands a folder with this log.
+abbrev pub LeavesLog : List ℕ → Option Checkpoint → List Segment → Standing → (List ℕ → Option File) → Standing → Type 0
+LeavesLog path checkpoint segments =
+    let folder = unfinished_of path in
+    LeavesFolder path folder (log_dirs folder checkpoint) (log_files folder checkpoint segments)
+
+-- At the path stands what stood there; and all else as before, but for the unfinished folder and what is in it.
+abbrev pub LeavesOldBesideLog : List ℕ → Option Checkpoint → List Segment → Standing → (List ℕ → Option File) → Standing → Type 0
+LeavesOldBesideLog path checkpoint segments =
+    let folder = unfinished_of path in
+    LeavesOld path folder (log_dirs folder checkpoint) (log_files folder checkpoint segments)
+
+-- A log was written into a new folder at the path.
+abbrev pub WritesLog : {S : Type 0} → (S → List Call → S → Type 0) → S → List ℕ → Option Checkpoint → List Segment → Type 0 → S → Type 0
+WritesLog did old path checkpoint segments = IsCrashSafe did old (LeavesOldOrLog path checkpoint segments) (LeavesLog path checkpoint segments)
+
+-- A log was begun in the unfinished folder of the path, which did not become the folder at the path.
+abbrev pub GivesUpLog : {S : Type 0} → (S → List Call → S → Type 0) → S → List ℕ → S → Type 0
+GivesUpLog did old path new = (checkpoint : Option Checkpoint) × (segments : List Segment) × IsCrashSafe did old (LeavesOldBesideLog path checkpoint segments) (LeavesOldBesideLog path checkpoint segments) ⊥ new
+
+-- A whole log, as it was unpacked up to this damage, was written into a new folder at the path. There is no damage if all went well, or if
+-- nothing is to be written of a damaged log. Or the log was given up, and not all went well.
+abbrev pub WritesUnpacked : {S : Type 0} → (S → List Call → S → Type 0) → S → List ℕ → (Option Checkpoint → List Segment → Option FileDamage → Type 0) → Bool → Type 0 → S → Type 0
+WritesUnpacked did old path IsLog through_damage WentWell new =
+    ((checkpoint : Option Checkpoint) × (segments : List Segment) × (damage : Option FileDamage) × IsLog checkpoint segments damage
+    × (WentWell → damage ≡ None) × (through_damage ≡ false → damage ≡ None) × WritesLog did old path checkpoint segments WentWell new)
+    ⊎ (GivesUpLog did old path new × (WentWell → ⊥))
+
+-- Nothing was done, and not all went well.
+abbrev pub DoesNothing : {S : Type 0} → S → Type 0 → S → Type 0
+DoesNothing old WentWell new = (new ≡ old) × (WentWell → ⊥)
+
+-- The log in the directory was unpacked into a new folder at the path `out`, or was given up, or nothing was done. The names of its files
+-- are those of before, and each file is what the store held at some moment of the call.
+abbrev pub Unpacks : {S : Type 0} → (S → List Call → S → Type 0) → (S → List ℕ → Found → Type 0) → S → UnpackRequest → Type 0 → S → Type 0
+Unpacks did holds old request WentWell new =
+    DoesNothing old WentWell new
+    ⊎ ((path : List ℕ) × IsOut request.out.now path × WritesUnpacked did old path (IsUnpackedLogIn (seen_since did holds old) request.dir.now) request.through_damage WentWell new)

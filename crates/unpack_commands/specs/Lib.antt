@@ -1,0 +1,4 @@
+pub mod Texts
+pub mod Logs
+pub mod Folders
+pub mod Steps

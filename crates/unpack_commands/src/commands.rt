@@ -1,0 +1,138 @@
+//! The command `unpack`.
+
+ghost use Rattle.std.specs.Prelude.{◌≡◌, MatchResult, Some, map};
+ghost use Rattle.std.specs.Option.{option_map};
+ghost use Rattle.wal_log.specs.Plan.{named as name_of};
+ghost use Rattle.prom_store.specs.declared.fault.Status.TheVariants.{Done};
+ghost use Rattle.unpack_commands.specs.Folders.{Unpacks};
+ghost use Rattle.unpack_commands.specs.Logs.{IsUnpackedPlan, seen_since};
+ghost use Rattle.unpack_commands.specs.Steps.{IsUnpackedFrom, UnpacksInto};
+
+use crate::out::free_target;
+use crate::planned::{PlannedCheckpoint, PlannedLog};
+use crate::reading::find_damage;
+use crate::report::damage_answer;
+use crate::writing::write_log;
+use prom_commands::{Answer, names_in, plan_checkpoint, plan_log};
+use prom_files::Target;
+use prom_store::{Fault, Store, UnpackRequest, join};
+use std::alloc::Global;
+use wal_log::Named;
+
+// Unpacks the planned files of a log into a new folder. If the log is damaged, it tells the damage alone, unless what is before the damage
+// is wanted.
+fn unpack_log<S: Store>(
+    alloc: Global,
+    store: &mut S,
+    target: &Target<'_>,
+    log: &PlannedLog<'_, '_, '_, '_>,
+    through_damage: bool,
+) -> Result<Answer, Fault>
+    ensures { MatchResult result
+        (λ answer. UnpacksInto S.did store.old target.now.path (IsUnpackedFrom (seen_since S.did S.holds store.old) log.now) through_damage (answer.status ≡ Done) store.new)
+        (λ _. UnpacksInto S.did store.old target.now.path (IsUnpackedFrom (seen_since S.did S.holds store.old) log.now) through_damage ⊥ store.new) }
+{
+    if !through_damage {
+        if let Some(damage) = find_damage(alloc, store, log)? {
+            return Ok(damage_answer(alloc, damage)?);
+        }
+    }
+    write_log(alloc, store, target, log, through_damage)
+}
+
+// Unpacks the log in a directory with this newest checkpoint and with these segments.
+fn unpack_with_checkpoint<S: Store>(
+    alloc: Global,
+    store: &mut S,
+    request: &UnpackRequest<'_>,
+    target: &Target<'_>,
+    newest: &Named<'_>,
+    segments: &[Named<'_>],
+) -> Result<Answer, Fault>
+    ensures { MatchResult result
+        (λ answer. UnpacksInto S.did store.old target.now.path (IsUnpackedPlan (seen_since S.did S.holds store.old) request.now.dir.now (Some (name_of newest.now)) (map name_of segments.now)) request.now.through_damage (answer.status ≡ Done) store.new)
+        (λ _. UnpacksInto S.did store.old target.now.path (IsUnpackedPlan (seen_since S.did S.holds store.old) request.now.dir.now (Some (name_of newest.now)) (map name_of segments.now)) request.now.through_damage ⊥ store.new) }
+{
+    let dir = join(alloc, request.dir, newest.name)?;
+    let names = names_in(alloc, store, &dir)?;
+    let plan = plan_checkpoint(alloc, &names)?;
+    let checkpoint = PlannedCheckpoint {
+        number: newest.number,
+        dir: &dir,
+        names: &plan,
+    };
+    let log = PlannedLog {
+        checkpoint: Some(checkpoint),
+        dir: request.dir,
+        segments,
+    };
+    unpack_log(alloc, store, target, &log, request.through_damage)
+}
+
+// Unpacks the log in a directory with this newest checkpoint, if there is one, and with these segments.
+fn unpack_planned<S: Store>(
+    alloc: Global,
+    store: &mut S,
+    request: &UnpackRequest<'_>,
+    target: &Target<'_>,
+    newest: Option<Named<'_>>,
+    segments: &[Named<'_>],
+) -> Result<Answer, Fault>
+    ensures { MatchResult result
+        (λ answer. UnpacksInto S.did store.old target.now.path (IsUnpackedPlan (seen_since S.did S.holds store.old) request.now.dir.now (option_map name_of newest.entry) (map name_of segments.now)) request.now.through_damage (answer.status ≡ Done) store.new)
+        (λ _. UnpacksInto S.did store.old target.now.path (IsUnpackedPlan (seen_since S.did S.holds store.old) request.now.dir.now (option_map name_of newest.entry) (map name_of segments.now)) request.now.through_damage ⊥ store.new) }
+{
+    match newest {
+        Some(newest) => unpack_with_checkpoint(alloc, store, request, target, &newest, segments),
+        None => {
+            let log = PlannedLog {
+                checkpoint: None,
+                dir: request.dir,
+                segments,
+            };
+            unpack_log(alloc, store, target, &log, request.through_damage)
+        }
+    }
+}
+
+// Unpacks the log in the directory `dir` into a new folder at the path `out`.
+fn unpack<S: Store>(
+    alloc: Global,
+    store: &mut S,
+    request: &UnpackRequest<'_>,
+) -> Result<Answer, Fault>
+    ensures { MatchResult result
+        (λ answer. Unpacks S.did S.holds store.old request.now (answer.status ≡ Done) store.new)
+        (λ _. Unpacks S.did S.holds store.old request.now ⊥ store.new) }
+{
+    let target = free_target(alloc, store, request.out)?;
+    let names = names_in(alloc, store, request.dir)?;
+    let plan = plan_log(alloc, &names)?;
+    let segments = plan.segments.as_slice();
+    unpack_planned(alloc, store, request, &target, plan.checkpoint, segments)
+}
+
+/// Carries out a request to unpack a log. If the status is `Done`, each file of the log stands for records up to its end, and a new folder
+/// at the path `out` has, under the number of each, the text of just these records. It is written in the order of `write_new_folder`: a crash
+/// at any moment leaves at the path what was there, or the whole folder, and after status `Done` the whole folder. The text to print is made
+/// before the folder is finished. Where a call fails the unfinished folder stays.
+///
+/// The files are unpacked and written one after another. In memory are the names of the files, and of one file its bytes and the text of its
+/// records. Unless what is before damage is wanted, all files are read and unpacked once before anything is written, up to
+/// the first damage, so the log is then read twice.
+///
+/// All names are listed before anything is written. No contract of a store says that what it holds outlasts a write: each file of the folder
+/// is the text of what the store held at some moment of the call. If a file changes between the two times that it is read, what it was the
+/// second time is written; if it is damaged then, the call fails with the path of the file, and nothing is at `out` but what was there.
+pub fn carry_out_unpack<S: Store>(
+    alloc: Global,
+    store: &mut S,
+    request: UnpackRequest<'_>,
+) -> Answer
+    ensures { Unpacks S.did S.holds store.old request.entry (result.status ≡ Done) store.new }
+{
+    match unpack(alloc, store, &request) {
+        Ok(answer) => answer,
+        Err(fault) => Answer::failed(alloc, fault),
+    }
+}
