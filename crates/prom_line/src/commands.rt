@@ -119,7 +119,9 @@ fn with<'a>(
 /// Makes the program's command with all its subcommands.
 pub(crate) fn program<'a>(alloc: Global) -> Result<Command<'a>, AllocError> {
     let about = "Reads a write-ahead log of samples, cuts it into blocks, and goes on writing it";
+    // by whatever name it is called, help and usage say this one
     let command = named(alloc, "prom_head", about, texts::PROGRAM)
+        .bin_name("prom_head")?
         .version(VERSION)
         .subcommand_required(true);
     let command = with(command, inspect(alloc))?;
