@@ -1,5 +1,5 @@
 -- Which remarks hold of a file and of a log, by the remark on each.
-use Rattle.std.proofs.Common.{◌≡◌, ℕ, ◌<◌, Bool, true, false, List, [], ◌∷◌, Option, Some, None, arith, inl, inr, refl, sym, ap, subst, ◌∙◌}
+use Rattle.std.proofs.Common.{◌≡◌, ℕ, ◌<◌, ◌^◌, Bool, true, false, List, [], ◌∷◌, Option, Some, None, arith, inl, inr, refl, sym, ap, subst, ◌∙◌}
 use Rattle.std.specs.Option.{option_map}
 use Rattle.log_references.specs.declared.references.UnboundReference.{UnboundReference}
 use Rattle.std.specs.Prelude.{◌⊎◌, ◌≢◌, ◌==◌, if◌then◌else◌, nat_lt}
@@ -12,9 +12,9 @@ use Rattle.wal_log.specs.Inputs.{following}
 use Rattle.log_inspection.specs.declared.files.FileSurvey.{FileSurvey}
 use Rattle.log_inspection.specs.declared.inspection.Inspection.{Inspection}
 use Rattle.survey_commands.specs.declared.remarks.Remark.{Remark}
-use Rattle.survey_commands.specs.declared.remarks.Remark.TheVariants.{Compressed, Damaged, Empty, NoLog, SegmentsMissing, TornEnd, UnboundReferences, Zeros}
+use Rattle.survey_commands.specs.declared.remarks.Remark.TheVariants.{Compressed, Damaged, Empty, NoLog, NoneBehind, SegmentsMissing, TornEnd, UnboundReferences, Zeros}
 use Rattle.survey_commands.specs.Remarks.{HoldsOfFile, HoldsOfLog, file_of, first_segment}
-use Rattle.survey_commands.specs.Remarking.{damage_remark, file_remark, log_remark, missing_remark, remark_by, remark_on, unbound_remark}
+use Rattle.survey_commands.specs.Remarking.{damage_remark, file_remark, first_remark, log_remark, remark_by, remark_on, unbound_remark}
 
 -- the remark in an option
 same_remark : (a b : Remark) → Some a ≡ Some b → a ≡ b
@@ -54,6 +54,7 @@ other_damage other last damage never torn = refl
 pub file_told : (f : FileSurvey) (last : Bool) (r : Remark) → HoldsOfFile f last r → file_remark f last ≡ Some r
 file_told f last (NoLog has_wal) h = absurd h
 file_told f last (SegmentsMissing from first) h = absurd h
+file_told f last (NoneBehind next) h = absurd h
 file_told f last (UnboundReferences references first) h = absurd h
 file_told f last (Empty file) ((is, at, before), empty) = rw (at, before, eq-eqb f.bytes 0 empty, is) refl
 file_told f last (Zeros file) ((is, at, before), bytes, zeros) = rw (at, before, ne_eqb f.bytes 0 bytes, zeros, is) refl
@@ -69,13 +70,18 @@ of_lower i first r true at lower is =
     subst (HoldsOfLog i) (same_remark (SegmentsMissing (following i.checkpoint) first) r is) (at, refl, ltb-true (following i.checkpoint) first lower)
 of_lower i first r false at lower is = absurd (let k : None ≡ Some r = is in cc)
 
-of_missing : (i : Inspection) (first : Option ℕ) (r : Remark) → first_segment i.files.items ≡ first → missing_remark (following i.checkpoint) first ≡ Some r → HoldsOfLog i r
-of_missing i None r at is = absurd (let k : None ≡ Some r = is in cc)
-of_missing i (Some first) r at is = of_lower i first r (nat_lt (following i.checkpoint) first) at refl is
+of_none : (i : Inspection) (r : Remark) (b : Bool) → i.files.items ≢ [] → first_segment i.files.items ≡ None → nat_lt (following i.checkpoint) (2 ^ 64) ≡ b
+    → (if b then Some (NoneBehind (following i.checkpoint)) else None) ≡ Some r → HoldsOfLog i r
+of_none i r true some at next is = subst (HoldsOfLog i) (same_remark (NoneBehind (following i.checkpoint)) r is) (some, at, refl, ltb-true (following i.checkpoint) (2 ^ 64) next)
+of_none i r false some at next is = absurd (let k : None ≡ Some r = is in cc)
+
+of_first : (i : Inspection) (first : Option ℕ) (r : Remark) → i.files.items ≢ [] → first_segment i.files.items ≡ first → first_remark (following i.checkpoint) first ≡ Some r → HoldsOfLog i r
+of_first i None r some at is = of_none i r (nat_lt (following i.checkpoint) (2 ^ 64)) some at refl is
+of_first i (Some first) r some at is = of_lower i first r (nat_lt (following i.checkpoint) first) at refl is
 
 of_files : (i : Inspection) (files : List FileSurvey) (r : Remark) → i.files.items ≡ files → remark_on files i.checkpoint i.has_wal ≡ Some r → HoldsOfLog i r
 of_files i [] r none is = subst (HoldsOfLog i) (same_remark (NoLog i.has_wal) r is) (none, refl)
-of_files i (f ∷ more) r some is = of_missing i (first_segment (f ∷ more)) r (ap first_segment some) is
+of_files i (f ∷ more) r some is = of_first i (first_segment (f ∷ more)) r (λ none. (let k : f ∷ more ≡ [] = sym some ∙ none in cc)) (ap first_segment some) is
 
 -- the remark on a log holds of it
 pub log_holds : (i : Inspection) (r : Remark) → log_remark i ≡ Some r → HoldsOfLog i r
@@ -84,7 +90,12 @@ log_holds i r is = of_files i i.files.items r refl is
 with_first : (files : List FileSurvey) (checkpoint : Option ℕ) (has_wal : Bool) (first : ℕ) → first_segment files ≡ Some first → following checkpoint < first → remark_on files checkpoint has_wal ≡ Some (SegmentsMissing (following checkpoint) first)
 with_first [] checkpoint has_wal first at lower = absurd (let k : None ≡ Some first = at in cc)
 with_first (f ∷ more) checkpoint has_wal first at lower =
-    ap (missing_remark (following checkpoint)) at ∙ ap (λ (b : Bool). if b then Some (SegmentsMissing (following checkpoint) first) else None) (lt-ltb (following checkpoint) first lower)
+    ap (first_remark (following checkpoint)) at ∙ ap (λ (b : Bool). if b then Some (SegmentsMissing (following checkpoint) first) else None) (lt-ltb (following checkpoint) first lower)
+
+without_first : (files : List FileSurvey) (checkpoint : Option ℕ) (has_wal : Bool) → files ≢ [] → first_segment files ≡ None → following checkpoint < 2 ^ 64 → remark_on files checkpoint has_wal ≡ Some (NoneBehind (following checkpoint))
+without_first [] checkpoint has_wal some at next = absurd (some refl)
+without_first (f ∷ more) checkpoint has_wal some at next =
+    ap (first_remark (following checkpoint)) at ∙ ap (λ (b : Bool). if b then Some (NoneBehind (following checkpoint)) else None) (lt-ltb (following checkpoint) (2 ^ 64) next)
 
 -- the remark on references that are not bound holds of the log
 pub unbound_holds : (i : Inspection) (r : Remark) → unbound_remark i.unbound ≡ Some r → HoldsOfLog i r
@@ -98,6 +109,8 @@ pub log_told : (i : Inspection) (r : Remark) → HoldsOfLog i r → (log_remark 
 log_told i (NoLog has_wal) (none, is) = inl (ap (λ files. remark_on files i.checkpoint i.has_wal) none ∙ ap (λ (b : Bool). Some (NoLog b)) (sym is))
 log_told i (SegmentsMissing from first) (at, is, lower) =
     inl (with_first i.files.items i.checkpoint i.has_wal first at (subst (λ (n : ℕ). n < first) is lower) ∙ ap (λ (n : ℕ). Some (SegmentsMissing n first)) (sym is))
+log_told i (NoneBehind next) (some, at, is, below) =
+    inl (without_first i.files.items i.checkpoint i.has_wal some at (subst (λ (n : ℕ). n < 2 ^ 64) is below) ∙ ap (λ (n : ℕ). Some (NoneBehind n)) (sym is))
 log_told i (UnboundReferences references first) (is, at) =
     inr (ap (λ found. option_map (λ f. UnboundReferences i.unbound.references f) found) at ∙ ap (λ (n : ℕ). Some (UnboundReferences n first)) (sym is))
 log_told i other h = absurd h

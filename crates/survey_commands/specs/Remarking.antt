@@ -1,5 +1,5 @@
 -- The remark on a file or on a log, and how remarks are collected: words of private functions, which no public contract cites.
-use Rattle.std.specs.Prelude.{◌⊎◌, ◌==◌, nat_lt, if◌then◌else◌, ℕ, Bool, true, List, [], ◌∷◌, Contains, Option, None, Some}
+use Rattle.std.specs.Prelude.{◌⊎◌, ◌==◌, ◌^◌, nat_lt, if◌then◌else◌, ℕ, Bool, true, List, [], ◌∷◌, Contains, Option, None, Some}
 use Rattle.std.specs.Option.{option_map}
 use Rattle.wal_page.specs.declared.fault.FaultKind.{FaultKind}
 use Rattle.wal_page.specs.declared.fault.FaultKind.TheVariants as kind
@@ -9,7 +9,7 @@ use Rattle.log_references.specs.declared.references.Unbound.{Unbound as Referenc
 use Rattle.log_inspection.specs.declared.files.FileSurvey.{FileSurvey}
 use Rattle.log_inspection.specs.declared.inspection.Inspection.{Inspection}
 use Rattle.survey_commands.specs.declared.remarks.Remark.{Remark}
-use Rattle.survey_commands.specs.declared.remarks.Remark.TheVariants.{Compressed, Damaged, Empty, NoLog, SegmentsMissing, TornEnd, UnboundReferences, Zeros}
+use Rattle.survey_commands.specs.declared.remarks.Remark.TheVariants.{Compressed, Damaged, Empty, NoLog, NoneBehind, SegmentsMissing, TornEnd, UnboundReferences, Zeros}
 use Rattle.survey_commands.specs.Remarks.{file_of, first_segment}
 
 -- the remark on damage of this kind, in a file that is the last one or not
@@ -30,14 +30,14 @@ remark_by None f last = blank_remark f last
 abbrev pub file_remark : FileSurvey → Bool → Option Remark
 file_remark f last = remark_by f.survey.damage f last
 
--- the remark that segments before the first one are missing, from this number on
-abbrev pub missing_remark : ℕ → Option ℕ → Option Remark
-missing_remark from None = None
-missing_remark from (Some first) = if nat_lt from first then Some (SegmentsMissing from first) else None
+-- the remark on the first segment, if there is one, of a log whose first one is to have this number
+abbrev pub first_remark : ℕ → Option ℕ → Option Remark
+first_remark from None = if nat_lt from (2 ^ 64) then Some (NoneBehind from) else None
+first_remark from (Some first) = if nat_lt from first then Some (SegmentsMissing from first) else None
 
 abbrev pub remark_on : List FileSurvey → Option ℕ → Bool → Option Remark
 remark_on [] checkpoint has_wal = Some (NoLog has_wal)
-remark_on (f ∷ more) checkpoint has_wal = missing_remark (following checkpoint) (first_segment (f ∷ more))
+remark_on (f ∷ more) checkpoint has_wal = first_remark (following checkpoint) (first_segment (f ∷ more))
 
 -- the remark on references that are not bound
 abbrev pub unbound_remark : ReferencesUnbound → Option Remark

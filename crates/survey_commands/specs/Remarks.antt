@@ -1,5 +1,5 @@
 -- Which remarks hold of a log.
-use Rattle.std.specs.Prelude.{◌≡◌, ◌≢◌, ◌⊎◌, ◌+◌, ◌<◌, ◌==◌, not, ℕ, Bool, true, false, List, [], Option, None, Some, length, slice_get}
+use Rattle.std.specs.Prelude.{◌≡◌, ◌≢◌, ◌⊎◌, ◌+◌, ◌<◌, ◌^◌, ◌==◌, not, ℕ, Bool, true, false, List, [], Option, None, Some, length, slice_get}
 use Rattle.std.specs.List.{find}
 use Rattle.std.specs.Option.{option_map}
 use Rattle.wal_page.specs.declared.fault.FaultKind.TheVariants as kind
@@ -8,7 +8,7 @@ use Rattle.log_inspection.specs.declared.files.FileSurvey.{FileSurvey}
 use Rattle.log_inspection.specs.declared.inspection.Inspection.{Inspection}
 use Rattle.survey_commands.specs.declared.remarks.NumberedFile.{NumberedFile}
 use Rattle.survey_commands.specs.declared.remarks.Remark.{Remark}
-use Rattle.survey_commands.specs.declared.remarks.Remark.TheVariants.{Compressed, Damaged, Empty, NoLog, SegmentsMissing, TornEnd, UnboundReferences, Zeros}
+use Rattle.survey_commands.specs.declared.remarks.Remark.TheVariants.{Compressed, Damaged, Empty, NoLog, NoneBehind, SegmentsMissing, TornEnd, UnboundReferences, Zeros}
 
 -- the file whose survey this is
 abbrev pub file_of : FileSurvey → NumberedFile
@@ -26,6 +26,7 @@ IsWholeBefore f last file = (file ≡ file_of f) × (f.survey.damage ≡ None) �
 abbrev pub HoldsOfFile : FileSurvey → Bool → Remark → Type 0
 HoldsOfFile f last (NoLog has_wal) = ⊥
 HoldsOfFile f last (SegmentsMissing from first) = ⊥
+HoldsOfFile f last (NoneBehind next) = ⊥
 HoldsOfFile f last (Empty file) = IsWholeBefore f last file × (f.bytes ≡ 0)
 HoldsOfFile f last (Zeros file) = IsWholeBefore f last file × (f.bytes ≢ 0) × (f.is_zeros ≡ true)
 HoldsOfFile f last (TornEnd damage) = (f.survey.damage ≡ Some damage) × (damage.kind ≡ kind.Torn) × (last ≡ true)
@@ -37,6 +38,7 @@ HoldsOfFile f last (UnboundReferences references first) = ⊥
 abbrev pub HoldsOfLog : Inspection → Remark → Type 0
 HoldsOfLog i (NoLog has_wal) = (i.files.items ≡ []) × (has_wal ≡ i.has_wal)
 HoldsOfLog i (SegmentsMissing from first) = (first_segment i.files.items ≡ Some first) × (from ≡ following i.checkpoint) × (from < first)
+HoldsOfLog i (NoneBehind next) = (i.files.items ≢ []) × (first_segment i.files.items ≡ None) × (next ≡ following i.checkpoint) × (next < 2 ^ 64)
 HoldsOfLog i (UnboundReferences references first) = (references ≡ i.unbound.references) × (i.unbound.first ≡ Some first)
 HoldsOfLog i other = ⊥
 

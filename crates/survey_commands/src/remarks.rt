@@ -3,7 +3,7 @@
 ghost use Rattle.std.specs.Prelude.{◌≡◌, ◌↔◌, ◌^◌, Contains, [], IfNone, IfOk, IfSome, OnOk, Some, length};
 ghost use Rattle.wal_log.specs.Inputs.{following};
 ghost use Rattle.survey_commands.specs.Remarks.{Holds, HoldsBelow, file_of as file_named, first_segment};
-ghost use Rattle.survey_commands.specs.Remarking.{AddsTo, blank_remark, damage_remark, file_remark, log_remark, unbound_remark};
+ghost use Rattle.survey_commands.specs.Remarking.{AddsTo, blank_remark, damage_remark, file_remark, first_remark, log_remark, unbound_remark};
 
 use log_inspection::{FileSurvey, Inspection};
 use log_references::{Unbound, UnboundReference};
@@ -42,6 +42,10 @@ pub enum Remark {
     SegmentsMissing {
         from: u64,
         first: u64,
+    },
+    /// No segment is past the checkpoint: `next` would be the first. A server begins again with 0, and passes that over at its next start.
+    NoneBehind {
+        next: u64,
     },
     /// A file before the last one has no bytes.
     Empty(NumberedFile),
@@ -127,6 +131,17 @@ fn first_number(files: &[FileSurvey]) -> Option<u64>
         .map(|file| file.number)
 }
 
+// Returns the remark on the number of the first segment, if there is one: by `from`, the number behind the checkpoint.
+fn of_first(from: u64, first: Option<u64>) -> Option<Remark>
+    ensures { result ≡ first_remark from first }
+{
+    match first {
+        None => Some(Remark::NoneBehind { next: from }),
+        Some(first) if from < first => Some(Remark::SegmentsMissing { from, first }),
+        Some(_) => None,
+    }
+}
+
 // Returns the remark on the log as a whole, if there is one.
 fn of_log(inspection: &Inspection) -> Option<Remark>
     ensures { result ≡ log_remark inspection.now }
@@ -136,13 +151,9 @@ fn of_log(inspection: &Inspection) -> Option<Remark>
         let has_wal = inspection.has_wal;
         return Some(Remark::NoLog { has_wal });
     }
-    let first = first_number(files)?;
+    let first = first_number(files);
     let from = number_behind(inspection.checkpoint)?;
-    if from < first {
-        Some(Remark::SegmentsMissing { from, first })
-    } else {
-        None
-    }
+    of_first(from, first)
 }
 
 // Returns the remark on references that are not bound, if there is one.

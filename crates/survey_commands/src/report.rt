@@ -125,6 +125,15 @@ fn push_missing(text: &mut String, from: u64, first: u64) -> Result<(), AllocErr
     Ok(())
 }
 
+// Appends that no segment is past the checkpoint.
+fn push_none_behind(text: &mut String, next: u64) -> Result<(), AllocError> {
+    write!(
+        text,
+        "no segment is past the checkpoint: a server begins again at 00000000, and loses that at its next start, unless an empty segment {next:08} is made first"
+    )?;
+    Ok(())
+}
+
 // Appends that a file has nothing in it.
 fn push_blank(text: &mut String, file: NumberedFile, what: &str) -> Result<(), AllocError> {
     write!(
@@ -177,6 +186,7 @@ pub(crate) fn push_remark(text: &mut String, remark: &Remark) -> Result<(), Allo
     match remark {
         Remark::NoLog { has_wal } => push_no_log(text, *has_wal),
         Remark::SegmentsMissing { from, first } => push_missing(text, *from, *first),
+        Remark::NoneBehind { next } => push_none_behind(text, *next),
         Remark::Empty(file) => push_blank(text, *file, "is empty"),
         Remark::Zeros(file) => push_blank(text, *file, "has only zeros"),
         Remark::TornEnd(damage) => push_found(text, *damage, "ends inside a record", TORN),
