@@ -1,7 +1,8 @@
 -- What a fault says.
-use Rattle.std.specs.Prelude.{◌≡◌, ℕ, List, string_bytes, ⊤}
+use Rattle.std.specs.Prelude.{◌≡◌, ℕ, ◌++◌, List, Option, None, Some, codes, string_bytes, ⊤}
 use Rattle.prom_store.specs.declared.fault.Fault.{Fault}
-use Rattle.prom_store.specs.declared.fault.Fault.TheVariants.{Damage, BadIndex, BadChunks, BadTombstones, BadMeta, CannotRead, CannotWrite, OutOfMemory}
+use Rattle.prom_store.specs.declared.fault.Fault.TheVariants.{Damage, BadIndex, BadChunks, BadTombstones, BadMeta, CannotRead, CannotWrite, Exists, OutOfMemory}
+use Rattle.prom_store.specs.Shown.{shown}
 
 -- the log is damaged, or bytes of a block are not what a block has there
 abbrev pub TellsDamage : Fault → Type 0
@@ -23,3 +24,16 @@ abbrev pub TellsUnwritten : List ℕ → Fault → Type 0
 TellsUnwritten path (CannotWrite told reason) = string_bytes told ≡ path
 TellsUnwritten _ OutOfMemory = ⊤
 TellsUnwritten _ _ = ⊥
+
+-- what was to be made at this path is there already, or out of memory
+abbrev pub TellsTaken : List ℕ → Fault → Type 0
+TellsTaken path (Exists told) = string_bytes told ≡ path
+TellsTaken _ OutOfMemory = ⊤
+TellsTaken _ _ = ⊥
+
+-- the text of a fault that names a path, which is one line whatever the path is
+abbrev pub path_text : Fault → Option (List ℕ)
+path_text (CannotRead path reason) = Some (codes "cannot read " ++ shown (string_bytes path))
+path_text (CannotWrite path reason) = Some (codes "cannot write " ++ shown (string_bytes path))
+path_text (Exists path) = Some (codes "cannot write " ++ (shown (string_bytes path) ++ codes ": it exists already"))
+path_text _ = None

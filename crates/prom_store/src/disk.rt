@@ -342,7 +342,8 @@ impl<R: Threads> Store for Disk<'_, R> {
 
     // a directory is opened for reading, as a file is
     fn sync_dir(&mut self, path: &str) -> Result<(), StoreFault> {
-        Ok(File::open(&self.host, path)?.sync_all()?)
+        let dir = if path.is_empty() { "." } else { path };
+        Ok(File::open(&self.host, dir)?.sync_all()?)
     }
 
     fn create_dir(&mut self, path: &str) -> Result<(), StoreFault> {

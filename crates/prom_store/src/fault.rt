@@ -10,10 +10,11 @@ ghost use Rattle.index_parts.specs.declared.fault.ReadFault.{ReadFault as IndexF
 ghost use Rattle.block_read.specs.declared.fault.BlockFault.TheVariants as block;
 ghost use Rattle.head_replay.specs.declared.fault.ReplayFault.TheVariants as replay;
 ghost use Rattle.prom_store.specs.declared.fault.Fault.TheVariants.{BadChunks, BadIndex, BadMeta, BadTombstones, BadUlid, Full, Gap, NoLog, NoPair, OutOfMemory, TooLarge, Workers};
-ghost use Rattle.prom_store.specs.Faults.{TellsDamage, TellsUnread, TellsUnwritten};
+ghost use Rattle.prom_store.specs.Faults.{TellsDamage, TellsTaken, TellsUnread, TellsUnwritten, path_text};
 
 use crate::damage::DamageLine;
 use crate::reason::Reason;
+use crate::shown::ShownPath;
 use crate::store::StoreFault;
 use block_index::ReadFault;
 use block_read::BlockFault;
@@ -114,6 +115,8 @@ pub enum Fault {
     CannotRead { path: String, reason: Reason },
     /// The file or directory at this path cannot be written.
     CannotWrite { path: String, reason: Reason },
+    /// What is to be made at this path exists already.
+    Exists { path: String },
     /// The hour does not lie within the times of 64 bits.
     Edge,
     /// No accepted sample is at or past the end of the hour.
@@ -169,19 +172,31 @@ impl Fault {
         }
     }
 
-    // Returns the fixed part of the fault's text.
+    /// Returns the fault of a path at which something is to be made and that exists: `Exists`, or `OutOfMemory` if memory ran out while the
+    /// path was copied.
+    pub fn exists(alloc: Global, path: &str) -> Fault
+        ensures { TellsTaken path.now result }
+    {
+        match String::from_str(alloc, path) {
+            Ok(path) => Fault::Exists { path },
+            Err(_) => Fault::OutOfMemory,
+        }
+    }
+
+    // Returns the fixed part of the fault's text, if it names no path.
     fn text(&self) -> &'static str {
         match self {
             Fault::NoPair => "pair must be NAME=VALUE",
             Fault::BadUlid => "ulid must be 26 Crockford characters",
-            // the line is the whole text
-            Fault::Damage(_) => "",
+            // the line, and a text with a path, are written whole
+            Fault::Damage(_)
+            | Fault::CannotRead { .. }
+            | Fault::CannotWrite { .. }
+            | Fault::Exists { .. } => "",
             Fault::BadIndex(_) => "bad index",
             Fault::BadChunks => "bad chunks",
             Fault::BadTombstones => "bad tombstones",
             Fault::BadMeta => "bad meta",
-            Fault::CannotRead { .. } => "cannot read",
-            Fault::CannotWrite { .. } => "cannot write",
             Fault::Edge => "hour at the edge of time",
             Fault::NotFull => "hour not full",
             Fault::NoSamples => "no samples in hour",
@@ -227,6 +242,7 @@ impl Fault {
             | Fault::BadMeta => Status::Damaged,
             Fault::CannotRead { .. }
             | Fault::CannotWrite { .. }
+            | Fault::Exists { .. }
             | Fault::NoLog
             | Fault::Gap(_)
             | Fault::TooLarge
@@ -245,13 +261,17 @@ impl Fault {
 }
 
 impl fmt::Display for Fault {
+    ghost output = { path_text };
+
     fn fmt<W: fmt::Write>(&self, f: &mut fmt::Formatter<W>) -> fmt::Result {
         let text = self.text();
         match self {
             Fault::Damage(line) => write!(f, "{line}"),
             Fault::BadIndex(fault) => write!(f, "{text} {fault}"),
-            Fault::CannotRead { path, .. } | Fault::CannotWrite { path, .. } => {
-                write!(f, "{text} {path}")
+            Fault::CannotRead { path, .. } => write!(f, "cannot read {}", ShownPath(path)),
+            Fault::CannotWrite { path, .. } => write!(f, "cannot write {}", ShownPath(path)),
+            Fault::Exists { path } => {
+                write!(f, "cannot write {}: it exists already", ShownPath(path))
             }
             Fault::NotARow { line }
             | Fault::EmptyLabelName { line }

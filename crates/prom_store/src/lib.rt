@@ -8,6 +8,7 @@ mod line;
 mod paths;
 mod reason;
 mod requests;
+mod shown;
 mod store;
 
 pub use damage::{DamageLine, kind_of_file};

@@ -108,7 +108,7 @@ pub trait Store {
     fn sync_file(&mut self, writer: &mut Self::Writer) -> Result<(), StoreFault>
         ensures call { (path : List ℕ) → is_of writer.old path → Called did self.old (SyncFile path) result self.new };
 
-    /// Syncs a directory: its names outlast a crash.
+    /// Syncs a directory: its names outlast a crash. The empty path is the directory of the program, in which a name alone is.
     fn sync_dir(&mut self, path: &str) -> Result<(), StoreFault>
         ensures { Called did self.old (SyncDir path.now) result self.new };
 
