@@ -1,5 +1,6 @@
 pub mod Inside
 pub mod Log
+pub mod LogNames
 pub mod Made
 pub mod Plans
 pub mod Readable

@@ -3,6 +3,7 @@ use Rattle.std.specs.Prelude.{◌≡◌, ◌⊎◌, ℕ, Bool, false, List, [], 
 use Rattle.std.specs.Path.{path_file_name, path_join, path_parent}
 use Rattle.wal_log.specs.declared.input.Checkpoint.{Checkpoint}
 use Rattle.wal_log.specs.declared.input.Segment.{Segment}
+use Rattle.wal_log.specs.Names.{checkpoint_number, number_of}
 use Rattle.prom_store.specs.Calls.{Call}
 use Rattle.prom_store.specs.Found.{Found}
 use Rattle.prom_store.specs.declared.requests.UnpackRequest.{UnpackRequest}
@@ -39,18 +40,19 @@ checkpoint_files folder (Some c) = files_in (checkpoint_in folder c.number) c.fi
 abbrev pub log_files : List ℕ → Option Checkpoint → List Segment → List FileAt
 log_files folder checkpoint segments = checkpoint_files folder checkpoint ++ files_in folder segments
 
--- the directory that a path is in: that of the program for a name alone
-abbrev pub parent_or_here : List ℕ → List ℕ
-parent_or_here [] = codes "."
-parent_or_here (c ∷ parent) = c ∷ parent
+-- The name is not that of a segment or of a checkpoint.
+pub record IsNoLogName (name : List ℕ) : Type 0 where
+  pub no_segment : number_of name ≡ None
+  pub no_checkpoint : checkpoint_number name ≡ None
 
--- The path is that of a name in a directory.
+-- The path is that of a name in a directory, as it was typed, which is empty for a name alone. A log has no file or directory of this name.
 pub record IsOut (out path : List ℕ) : Type 0 where
   pub parent : List ℕ
   pub name : List ℕ
   pub parent_is : path_parent out ≡ Some parent
   pub name_is : path_file_name out ≡ Some name
-  pub path_is : path ≡ path_join (parent_or_here parent) name
+  pub path_is : path ≡ path_join parent name
+  pub no_log_name : IsNoLogName name
 
 -- At the path stands what stood there, or a folder with this log; and all else as before, but for the unfinished folder.
 abbrev pub LeavesOldOrLog : List ℕ → Option Checkpoint → List Segment → Standing → (List ℕ → Option File) → Standing → Type 0

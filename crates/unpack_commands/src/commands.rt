@@ -112,7 +112,8 @@ fn unpack<S: Store>(
     unpack_planned(alloc, store, request, &target, plan.checkpoint, segments)
 }
 
-/// Carries out a request to unpack a log. If the status is `Done`, each file of the log stands for records up to its end, and a new folder
+/// Carries out a request to unpack a log. Nothing is read or written if the name of `out` is that of a segment or of a checkpoint, which the
+/// folder would be taken for beside a log. If the status is `Done`, each file of the log stands for records up to its end, and a new folder
 /// at the path `out` has, under the number of each, the text of just these records. It is written in the order of `write_new_folder`: a crash
 /// at any moment leaves at the path what was there, or the whole folder, and after status `Done` the whole folder. The text to print is made
 /// before the folder is finished. Where a call fails the unfinished folder stays.

@@ -1,27 +1,17 @@
 //! Where the unpacked log is written.
 
-ghost use Rattle.std.specs.Prelude.{◌≡◌, ◌==◌, IfOk, IfSome, Some};
+ghost use Rattle.std.specs.Prelude.{◌≡◌, ◌==◌, IfOk, IfSome, OnOk, Some, false};
 ghost use Rattle.std.specs.List.{list_any};
 ghost use Rattle.std.specs.Path.{path_file_name, path_parent, slash};
 ghost use Rattle.prom_files.specs.Targets.{IsName, unfinished_of};
-ghost use Rattle.unpack_commands.specs.Folders.{IsOut, parent_or_here as parent_of};
+ghost use Rattle.unpack_commands.specs.Folders.{IsNoLogName, IsOut};
 
+use prom_commands::plan_log;
 use prom_files::{Target, written};
 use prom_store::{Fault, Reason, Store, StoreFault};
 use std::alloc::Global;
 use std::path::Path;
-
-// Returns the directory that a path is in: that of the program for a name alone.
-fn parent_or_here(parent: &str) -> &str
-    ensures { result.now ≡ parent_of parent.now }
-{
-    if parent.is_empty() { "." } else { parent }
-}
-
-// Returns `CannotWrite` with this path, which exists.
-fn exists(alloc: Global, path: &str) -> Fault {
-    Fault::cannot_write(alloc, path, StoreFault::Refused(Reason::Exists))
-}
+use std::slice;
 
 // Returns whether a text has a slash.
 fn has_slash(text: &str) -> bool
@@ -47,29 +37,56 @@ fn parts_of(out: &str) -> Option<(&str, &str)>
     Some((parent, name))
 }
 
-// Returns `CannotWrite` with the path of the folder of this name, or else of the unfinished one, if it exists, or if the names of the
-// directory cannot be read.
+// Returns whether a log has a file or a directory of this name: whether it is that of a segment or of a checkpoint.
+#[tactic(auto, using(crate::proofs::LogNames::no_log_name))]
+fn is_of_log(alloc: Global, name: &str) -> Result<bool, Fault>
+    ensures { IfOk result (λ of_log. of_log ≡ false → IsNoLogName name.now) }
+{
+    let name = String::from_str(alloc, name)?;
+    // a name alone has no gap
+    let plan = plan_log(alloc, slice::from_ref(&name))?;
+    Ok(plan.checkpoint.is_some() || !plan.segments.is_empty())
+}
+
+// Returns `CannotWrite` with the path `out` if its name is that of a file or directory of a log: in the directory of one, it would be taken
+// for a part of it.
+fn check_name(alloc: Global, out: &str, name: &str) -> Result<(), Fault>
+    ensures { OnOk result (IsNoLogName name.now) }
+{
+    if is_of_log(alloc, name)? {
+        let refused = StoreFault::Refused(Reason::LogName);
+        return Err(Fault::cannot_write(alloc, out, refused));
+    }
+    Ok(())
+}
+
+// Returns `Exists` with the path of the folder of this name, or else of the unfinished one, if it exists; `CannotWrite` with the latter if
+// the names of the directory cannot be read.
 fn check_free<S: Store>(
     alloc: Global,
     store: &S,
     target: &Target<'_>,
     name: &str,
 ) -> Result<(), Fault> {
-    let names = written(alloc, target.unfinished(), store.read_dir(target.parent()))?;
+    // a name alone is in the directory of the program
+    let parent = target.parent();
+    let dir = if parent.is_empty() { "." } else { parent };
+    let names = written(alloc, target.unfinished(), store.read_dir(dir))?;
     if names.iter().any(|taken| taken.as_str() == name) {
-        return Err(exists(alloc, target.path()));
+        return Err(Fault::exists(alloc, target.path()));
     }
     if names
         .iter()
         .any(|taken| taken.as_str().strip_suffix(".tmp") == Some(name))
     {
-        return Err(exists(alloc, target.unfinished()));
+        return Err(Fault::exists(alloc, target.unfinished()));
     }
     Ok(())
 }
 
-/// Returns the target of the new folder at the path `out`. Returns `CannotWrite` if it exists, or the unfinished one, or if its path has no
-/// name, as that of a root or of the directory above.
+/// Returns the target of the new folder at the path `out`. Returns `Exists` if it exists, or the unfinished one, or if its path has no
+/// name, as that of a root or of the directory above; `CannotWrite` if its name is that of a segment or of a checkpoint, which is found
+/// before anything is read.
 pub(crate) fn free_target<'a, S: Store>(
     alloc: Global,
     store: &S,
@@ -79,9 +96,10 @@ pub(crate) fn free_target<'a, S: Store>(
     ensures unfinished { IfOk result (λ t. t.unfinished ≡ unfinished_of t.path) }
 {
     let Some((parent, name)) = parts_of(out) else {
-        return Err(exists(alloc, out));
+        return Err(Fault::exists(alloc, out));
     };
-    let target = Target::new(alloc, parent_or_here(parent), name)?;
+    check_name(alloc, out, name)?;
+    let target = Target::new(alloc, parent, name)?;
     check_free(alloc, store, &target, name)?;
     Ok(target)
 }
