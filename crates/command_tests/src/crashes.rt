@@ -74,8 +74,8 @@ fn assert_printed<R: Abort + Threads + Wait + Sync + AllocGlobal>(
     same(rt, crash, found.printed.as_str(), wanted);
 }
 
-// What `replay` prints of a log of one series that has so many records of one sample.
-fn counts(alloc: Global, samples: u64) -> Result<String, AllocError> {
+/// What `replay` prints of a log of one series that has so many records of one sample.
+pub fn counts(alloc: Global, samples: u64) -> Result<String, AllocError> {
     format!(in alloc;
         "series_records 1\nsample_records {samples}\nstone_records 0\nskipped_records 0\n\
         series_entries 1\nseries 1\naccepted {samples}\nstale 0\nunknown 0\nhiding 0\nempty_stones 0\nunknown_stones 0\n\
@@ -83,7 +83,8 @@ fn counts(alloc: Global, samples: u64) -> Result<String, AllocError> {
     )
 }
 
-const REPLAY: Asked<'static> = Asked::OfLog(Request::Replay {
+/// Replays the log.
+pub const REPLAY: Asked<'static> = Asked::OfLog(Request::Replay {
     dir: "log",
     options: Options {
         workers: 4,
@@ -125,10 +126,10 @@ fn assert_log<R: Abort + Threads + Wait + Sync + AllocGlobal>(
     Ok(())
 }
 
-// There are ten calls.
+// There are 11 calls.
 #[test]
 fn crash_at_each_call_of_append(rt: HostRuntime) -> Result<(), StoreFault> {
-    for call in 1..12 {
+    for call in 1..13 {
         for kept in WAYS {
             assert_log(&rt, (call, *kept))?;
         }
@@ -199,10 +200,10 @@ fn assert_checkpoint<R: Abort + Threads + Wait + Sync + AllocGlobal>(
     Ok(())
 }
 
-// There are 11 calls.
+// There are 13 calls.
 #[test]
 fn crash_at_each_call_of_checkpoint(rt: HostRuntime) -> Result<(), StoreFault> {
-    for call in 1..13 {
+    for call in 1..15 {
         for kept in WAYS {
             assert_checkpoint(&rt, (call, *kept))?;
         }
@@ -233,32 +234,6 @@ fn crash_at_each_call_of_unpack(rt: HostRuntime) -> Result<(), StoreFault> {
         for kept in WAYS {
             assert_unpacked(&rt, (call, *kept))?;
         }
-    }
-    Ok(())
-}
-
-// Appends where another run claims the segment just before this call, and ends the test unless it is refused.
-fn assert_refused<R: Abort + Threads + Wait + Sync + AllocGlobal>(
-    rt: &R,
-    shelf: &mut Shelf,
-    call: u64,
-) -> Result<(), StoreFault> {
-    shelf.arrive(call, "log/00000001", b"of another run")?;
-    let answer = carried_out(rt, shelf, &NoGate, APPEND.asked);
-    let said = complaint(rt.alloc(), &answer)?;
-    same(rt, call, said.as_str(), "cannot write log/00000001");
-    Ok(())
-}
-
-// Another run claims the segment once the log is listed: it keeps it.
-#[test]
-fn segment_of_another_run(rt: HostRuntime) -> Result<(), StoreFault> {
-    for call in 2..5 {
-        let mut shelf = shelf_of(rt.alloc(), &APPEND)?;
-        assert_refused(&rt, &mut shelf, call)?;
-        same(&rt, call, shelf.calls(), Ok(4));
-        assert_names(&rt, &shelf, "log", " 00000000 00000001")?;
-        assert_bytes(&rt, call, &shelf, "log/00000001", b"of another run");
     }
     Ok(())
 }

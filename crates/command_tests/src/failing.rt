@@ -279,21 +279,22 @@ const APPENDED: Left = (0, "accepted\nsegment 00000001\n", "");
 const NOT_WRITTEN: Left = (3, "", "cannot write log/00000001");
 
 // The log is listed, its segment and the rows are read, the segment is claimed, what a killed run may have left is taken away, the file
-// beside the segment is made, written and synced, it takes the segment's place, and the directory is synced. Where one of the last five
-// fails, both files are taken away by two calls more.
+// beside the segment is made, written and synced, the log is listed, the file takes the segment's place, and the directory is synced. Where
+// one of the last six fails, the file beside the segment is taken away, the log is listed, and the claim is taken away.
 const CALLS_OF_APPEND: &[(u64, Left, Left, u64)] = &[
     (1, (3, "", "cannot read log"), OUT_OF_MEMORY, 1),
     (2, (3, "", "cannot read log/00000000"), OUT_OF_MEMORY, 2),
     (3, (3, "", "cannot read rows"), OUT_OF_MEMORY, 3),
     (4, NOT_WRITTEN, OUT_OF_MEMORY, 4),
-    (5, APPENDED, APPENDED, 10),
-    (6, NOT_WRITTEN, OUT_OF_MEMORY, 8),
-    (7, NOT_WRITTEN, OUT_OF_MEMORY, 9),
-    (8, NOT_WRITTEN, OUT_OF_MEMORY, 10),
-    (9, NOT_WRITTEN, OUT_OF_MEMORY, 11),
-    (10, NOT_WRITTEN, OUT_OF_MEMORY, 12),
+    (5, APPENDED, APPENDED, 11),
+    (6, NOT_WRITTEN, OUT_OF_MEMORY, 9),
+    (7, NOT_WRITTEN, OUT_OF_MEMORY, 10),
+    (8, NOT_WRITTEN, OUT_OF_MEMORY, 11),
+    (9, NOT_WRITTEN, OUT_OF_MEMORY, 12),
+    (10, NOT_WRITTEN, OUT_OF_MEMORY, 13),
+    (11, NOT_WRITTEN, OUT_OF_MEMORY, 14),
     // there is no such call
-    (11, APPENDED, APPENDED, 10),
+    (12, APPENDED, APPENDED, 11),
 ];
 
 // Ends the test unless to append leaves this where a call fails, and the segment is there just where it was appended.
@@ -332,8 +333,8 @@ const WITH_UNFINISHED: &str = " 00000000 00000001 checkpoint.00000001.tmp";
 
 const WITH_CHECKPOINT: &str = " 00000000 00000001 checkpoint.00000001";
 
-// The log is read and listed once more; the directory is made, the file is made, written and synced, then the directory is synced and
-// renamed, and the log's directory is synced. No segment is taken away.
+// The log is read and listed once more; the directory is made, the file is made, written and synced; the log is listed and its last segment
+// read again; then the directory is synced and renamed, and the log's directory is synced. No segment is taken away.
 const CALLS_OF_CHECKPOINT: &[(&str, &str)] = &[
     ("cannot read log", ALONE),
     ("cannot read log/00000000", ALONE),
@@ -343,6 +344,8 @@ const CALLS_OF_CHECKPOINT: &[(&str, &str)] = &[
     (NO_FILE, WITH_UNFINISHED),
     (NO_FILE, WITH_UNFINISHED),
     (NO_FILE, WITH_UNFINISHED),
+    ("cannot read log", WITH_UNFINISHED),
+    ("cannot read log/00000001", WITH_UNFINISHED),
     (NO_DIRECTORY, WITH_UNFINISHED),
     (NO_CHECKPOINT, WITH_UNFINISHED),
     (NO_CHECKPOINT, WITH_CHECKPOINT),

@@ -17,12 +17,22 @@ struct Failure {
     lasts: bool,
 }
 
-// A file that another program puts there, just before the call of this number.
+/// What another program does to the files.
+#[derive(Clone, Copy, Debug)]
+pub enum Act {
+    /// Creates a directory, and syncs it.
+    PutDir(&'static str),
+    /// Creates a file with these bytes, and syncs it.
+    Put(&'static str, &'static [u8]),
+    Rename(&'static str, &'static str),
+    Remove(&'static str),
+}
+
+// What another program does just before the call of this number.
 #[derive(Clone, Copy)]
-struct Arrival {
+struct Meanwhile {
     call: u64,
-    path: &'static str,
-    bytes: &'static [u8],
+    acts: &'static [Act],
 }
 
 #[derive(Drop)]
@@ -30,7 +40,7 @@ struct Contents {
     tree: Tree,
     calls: u64,
     failure: Option<Failure>,
-    arrival: Option<Arrival>,
+    meanwhile: Option<Meanwhile>,
 }
 
 // Puts a file there, and syncs it.
@@ -41,14 +51,33 @@ fn put_file(tree: &mut Tree, path: &str, bytes: &[u8]) -> Result<(), StoreFault>
     Ok(())
 }
 
+// Puts a directory there, and syncs it.
+fn put_dir(tree: &mut Tree, path: &str) -> Result<(), StoreFault> {
+    tree.create_dir(path)?;
+    tree.crash(Kept::All, Kept::All)?;
+    Ok(())
+}
+
+fn act_all(tree: &mut Tree, acts: &[Act]) -> Result<(), StoreFault> {
+    for act in acts {
+        match *act {
+            Act::PutDir(path) => put_dir(tree, path)?,
+            Act::Put(path, bytes) => put_file(tree, path, bytes)?,
+            Act::Rename(from, to) => tree.rename(from, to)?,
+            Act::Remove(path) => tree.remove_file(path)?,
+        }
+    }
+    Ok(())
+}
+
 impl Contents {
     // Counts a call, and fails if it is one that is to fail.
     fn count_call(&mut self) -> Result<(), StoreFault> {
         self.calls = self.calls.saturating_add(1);
-        if let Some(arrival) = self.arrival
-            && arrival.call == self.calls
+        if let Some(meanwhile) = self.meanwhile
+            && meanwhile.call == self.calls
         {
-            put_file(&mut self.tree, arrival.path, arrival.bytes)?;
+            act_all(&mut self.tree, meanwhile.acts)?;
         }
         match self.failure {
             Some(failure) if failure.call == self.calls => Err(failure.fault),
@@ -88,7 +117,7 @@ impl Shelf {
             tree: Tree::new(alloc)?,
             calls: 0,
             failure: None,
-            arrival: None,
+            meanwhile: None,
         };
         Ok(Shelf {
             contents: RefCell::new(contents),
@@ -97,10 +126,7 @@ impl Shelf {
 
     /// Puts a directory there and syncs it, with no call counted.
     pub fn put_dir(&mut self, path: &str) -> Result<(), StoreFault> {
-        let tree = &mut open(&self.contents)?.tree;
-        tree.create_dir(path)?;
-        tree.crash(Kept::All, Kept::All)?;
-        Ok(())
+        put_dir(&mut open(&self.contents)?.tree, path)
     }
 
     /// Puts a file there and syncs it, with no call counted.
@@ -128,14 +154,9 @@ impl Shelf {
         Ok(())
     }
 
-    /// Puts a file there just before the call of this number.
-    pub fn arrive(
-        &mut self,
-        call: u64,
-        path: &'static str,
-        bytes: &'static [u8],
-    ) -> Result<(), StoreFault> {
-        open(&self.contents)?.arrival = Some(Arrival { call, path, bytes });
+    /// Has another program do this just before the call of this number.
+    pub fn meanwhile(&mut self, call: u64, acts: &'static [Act]) -> Result<(), StoreFault> {
+        open(&self.contents)?.meanwhile = Some(Meanwhile { call, acts });
         Ok(())
     }
 

@@ -1,5 +1,6 @@
 pub mod Alike
 pub mod Appended
+pub mod AsRead
 pub mod Changed
 pub mod Changes
 pub mod CheckpointFiles

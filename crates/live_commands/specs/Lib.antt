@@ -1,3 +1,4 @@
+pub mod Again
 pub mod Checkpoints
 pub mod Crashes
 pub mod Logs

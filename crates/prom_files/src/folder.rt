@@ -40,8 +40,13 @@ fn sync_dirs<S: Store>(alloc: Global, store: &mut S, dirs: &[String]) -> Result<
     Ok(())
 }
 
-// Writes files. Each is synced before the next one is created.
-fn write_files<S: Store>(alloc: Global, store: &mut S, files: &[NewFile<'_>]) -> Result<(), Fault>
+/// Writes files of a folder that `begin_folder` began. Each is synced before the next one is created. Where a call fails, returns
+/// `CannotWrite` with its path, and what was written stays.
+pub fn write_files<S: Store>(
+    alloc: Global,
+    store: &mut S,
+    files: &[NewFile<'_>],
+) -> Result<(), Fault>
     ensures { Follows S.did store.old (files_calls (map file_at files.now)) result store.new }
 {
     for file in files {
@@ -94,7 +99,7 @@ fn move_folder<S: Store>(
 /// Finishes a folder that `begin_folder` began and whose files are written: syncs its directories and then the folder, renames it to the
 /// path, and syncs the directory that it is in last. Where a call fails, returns `CannotWrite` with its path, and the folder stays.
 ///
-/// With `begin_folder` and the calls of `write_synced` before it, these are the calls of a new folder.
+/// With `begin_folder` and the calls of `write_files` or `write_synced` before it, these are the calls of a new folder.
 pub fn finish_folder<S: Store>(
     alloc: Global,
     store: &mut S,

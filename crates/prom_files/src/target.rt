@@ -54,6 +54,7 @@ impl<'a> Target<'a> {
     pub fn path(&self) -> &str
         ensures path { result.now ≡ self.now.path }
         ensures inside { is_in self.now.parent self.now.path ≡ true }
+        ensures behind { self.now.unfinished ≡ unfinished_of self.now.path }
     {
         &self.path
     }
