@@ -7,7 +7,6 @@ use crate::runs::{APPEND, CHECKPOINT, Case, Left, carried_out, complaint, shelf_
 use crate::shelf::{Act, Shelf};
 use head_replay::NoGate;
 use prom_store::{Store, StoreFault};
-use std::ops::RangeInclusive;
 use std::process::Abort;
 use std::sync::Wait;
 use std::thread::Threads;
@@ -16,8 +15,9 @@ const APPENDED: Left = (0, "accepted\nsegment 00000001\n", "");
 
 const NOT_APPENDED: Left = (3, "", "cannot write log/00000001");
 
-// What another run does just before one of these calls, what the command then leaves, and the names that are then in the directory.
-type Beside = (&'static [Act], RangeInclusive<u64>, Left, &'static str);
+// What another run does just before one of these calls, from the first to the last, what the command then leaves, and the names that are then
+// in the directory.
+type Beside = (&'static [Act], (u64, u64), Left, &'static str);
 
 // Carries out a case beside another run, and ends the test unless it leaves what it is to leave.
 fn assert_beside<R: Abort + Threads + Wait + Sync + AllocGlobal>(
@@ -90,25 +90,25 @@ const OF_EARLIER: &[Act] = &[
 const CHECKPOINTS: &[Beside] = &[
     (
         UNFINISHED,
-        5..=9,
+        (5, 9),
         NOT_APPENDED,
         " 00000000 checkpoint.00000001.tmp",
     ),
     (
         OF_CLAIM,
-        5..=9,
+        (5, 9),
         NOT_APPENDED,
         " 00000000 checkpoint.00000001",
     ),
     (
         OF_EARLIER,
-        5..=9,
+        (5, 9),
         APPENDED,
         " 00000000 checkpoint.00000000 00000001",
     ),
     (
         UNFINISHED,
-        10..=10,
+        (10, 10),
         APPENDED,
         " 00000000 checkpoint.00000001.tmp 00000001",
     ),
@@ -118,8 +118,8 @@ const CHECKPOINTS: &[Beside] = &[
 // segment. A replay finds the row just where it was accepted.
 #[test]
 fn checkpoint_beside_append(rt: HostRuntime) -> Result<(), StoreFault> {
-    for (acts, calls, left, names) in CHECKPOINTS {
-        for call in calls.clone() {
+    for (acts, (first, last), left, names) in CHECKPOINTS {
+        for call in *first..=*last {
             let mut shelf = shelf_of(rt.alloc(), &APPEND)?;
             assert_beside(&rt, &APPEND, &mut shelf, (acts, call), (*left, names))?;
             assert_replay(&rt, &mut shelf, u64::from(*left == APPENDED))?;
@@ -196,31 +196,31 @@ const GIVEN_UP: &[Act] = &[Act::Remove("log/00000002")];
 const LAST_CLAIMS: &[Beside] = &[
     (
         WRITING,
-        2..=5,
+        (2, 5),
         NOT_MADE,
         " 00000000 00000001 00000002 00000002.tmp",
     ),
     (
         WRITING,
-        7..=10,
+        (7, 10),
         NOT_MADE,
         " 00000000 00000001 00000002 checkpoint.00000002.tmp 00000002.tmp",
     ),
     (
         WRITTEN,
-        5..=6,
+        (5, 6),
         NOT_MADE,
         " 00000000 00000001 00000002 checkpoint.00000002.tmp",
     ),
     (
         WRITTEN,
-        7..=12,
+        (7, 12),
         NOT_MADE,
         " 00000000 00000001 checkpoint.00000002.tmp 00000002",
     ),
     (
         GIVEN_UP,
-        5..=10,
+        (5, 10),
         MADE,
         " 00000000 00000001 checkpoint.00000002",
     ),
@@ -236,13 +236,13 @@ const WRITTEN_EARLIER: &[Act] = &[
 const EARLIER_CLAIMS: &[Beside] = &[
     (
         WRITING_EARLIER,
-        2..=6,
+        (2, 6),
         NOT_MADE,
         " 00000000 00000001 00000002 00000001.tmp checkpoint.00000002.tmp",
     ),
     (
         WRITTEN_EARLIER,
-        7..=11,
+        (7, 11),
         NOT_MADE,
         " 00000000 00000002 checkpoint.00000002.tmp 00000001",
     ),
@@ -261,13 +261,13 @@ const LAST_NOT_MADE: Left = (3, "", "cannot write log/checkpoint.00000001");
 const LAST_SEGMENTS: &[Beside] = &[
     (
         GROWN,
-        6..=10,
+        (6, 10),
         LAST_NOT_MADE,
         " 00000000 checkpoint.00000001.tmp 00000001",
     ),
     (
         GONE,
-        6..=9,
+        (6, 9),
         LAST_NOT_MADE,
         " 00000000 checkpoint.00000001.tmp",
     ),
@@ -279,8 +279,8 @@ fn assert_checkpoints<R: Abort + Threads + Wait + Sync + AllocGlobal>(
     case: &Case,
     besides: &[Beside],
 ) -> Result<(), StoreFault> {
-    for (acts, calls, left, names) in besides {
-        for call in calls.clone() {
+    for (acts, (first, last), left, names) in besides {
+        for call in *first..=*last {
             let mut shelf = shelf_of(rt.alloc(), case)?;
             assert_beside(rt, case, &mut shelf, (acts, call), (*left, names))?;
         }
