@@ -4,6 +4,7 @@ pub mod OneRuns
 pub mod Rising
 pub mod Stale
 pub mod HistoryLaws
+pub mod Gathered
 pub mod Validity
 pub mod ValidityWorked
 pub mod TallyLaws

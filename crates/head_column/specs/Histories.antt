@@ -9,7 +9,7 @@ use Rattle.head_column.specs.declared.items.Outcome.{Outcome}
 use Rattle.head_column.specs.declared.items.Outcome.TheVariants.{Accepted, Stale, Hidden, EmptyStone}
 use Rattle.head_column.specs.Times.{greatest}
 use Rattle.head_column.specs.Runs.{AreRunsOf}
-use Rattle.head_column.specs.Merging.{with_run}
+use Rattle.head_column.specs.Merging.{with_run, with_runs}
 use Rattle.head_column.specs.Items.{samples_of, is_hidden}
 
 -- what is kept of a series: the accepted samples, in order, and the runs of the hidden times
@@ -47,6 +47,10 @@ history_outcome h (item.Stone r) = if int_le r.min_time r.max_time then Hidden e
 -- the history of the items, made item by item
 abbrev pub history_of : List Item → History
 history_of items = fold history_after no_history items
+
+-- the history with the times of these runs hidden too
+abbrev pub history_with : History → List Run → History
+history_with h runs = record { samples = h.samples; hidden = with_runs h.hidden runs }
 
 -- what contracts see of a column: its history, and a number of items that it takes without allocating
 pub record ColumnValue : Type 0 where

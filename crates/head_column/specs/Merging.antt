@@ -1,5 +1,6 @@
 -- How a column adds a run to its runs. That the result is the maximal runs of all their times is the law `columns_follow_items`.
 use Rattle.std.specs.Prelude.{pos, ◌+ℤ◌, Bool, List, [], ◌∷◌, int_lt, if◌then◌else◌}
+use Rattle.std.specs.List.{fold}
 use Rattle.std.specs.Int.{int_min, int_max}
 use Rattle.head_column.specs.declared.items.Run.{Run}
 
@@ -20,3 +21,7 @@ absorb (h ∷ hs) r = if ends_before r h then r ∷ h ∷ hs else absorb hs (spa
 abbrev pub with_run : List Run → Run → List Run
 with_run [] r = r ∷ []
 with_run (h ∷ hs) r = if ends_before h r then h ∷ with_run hs r else absorb (h ∷ hs) r
+
+-- the runs of the times of rs and of all of more, added one after another
+abbrev pub with_runs : List Run → List Run → List Run
+with_runs rs more = fold with_run rs more

@@ -148,6 +148,14 @@ impl Column {
         self.latest = latest_from(self.latest, min_valid);
     }
 
+    /// Replaces the runs of the hidden times.
+    pub(crate) fn replace_hidden(&mut self, hidden: Vec<Run>)
+        requires { AreApart hidden.items }
+        ensures { self.new.history ≡ record { samples = self.old.history.samples; hidden = hidden.items } }
+    {
+        self.hidden = hidden;
+    }
+
     // Returns whether some sample has an equal or later time.
     fn has_reached(&self, time: i64) -> bool
         ensures { result ≡ has_reached self.now.history.samples time }

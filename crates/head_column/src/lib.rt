@@ -1,7 +1,8 @@
 //! One series: its accepted samples and the runs of its hidden times; hours of time, and chunks of samples.
 //!
 //! A `Column` is built item by item, samples and deletions in order. Contracts say what any list of items makes of it. A
-//! `Tally` returns the outcomes that a `Column` would, but keeps no samples.
+//! `GatheringColumn` becomes the same `Column`; it merges deletions many at a time, so that their order does not matter. A `Tally`
+//! returns the outcomes that a `Column` would, but keeps no samples.
 #![tactic(auto)]
 
 mod chunk;
@@ -9,6 +10,7 @@ mod column;
 mod cutting;
 mod decoding;
 mod encoding;
+mod gathering;
 mod hour;
 mod items;
 mod laws;
@@ -23,6 +25,7 @@ pub use chunk::{CHUNK_SAMPLES, Chunk, ChunkFault};
 pub use column::Column;
 pub use decoding::decode_chunk;
 pub use encoding::encode_chunk;
+pub use gathering::GatheringColumn;
 pub use hour::Hour;
 pub use items::{Item, Outcome, Run, Sample};
 pub use laws::{

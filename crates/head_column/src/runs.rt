@@ -1,13 +1,13 @@
-//! Merging and cutting runs of hidden times, in place.
+//! Merging and cutting runs of hidden times.
 
-ghost use Rattle.std.specs.Prelude.{◌≡◌, ◌+◌, ◌<◌, ◌≤◌, ◌∷◌, ◌++◌, IsOk, OnErr, OnOk, drop, int_lt, length, take, vec_len};
+ghost use Rattle.std.specs.Prelude.{◌≡◌, ◌+◌, ◌<◌, ◌≤◌, ◌∷◌, ◌++◌, [], All, IfOk, IsOk, OnErr, OnOk, drop, int_lt, length, take, vec_len};
 ghost use Rattle.std.specs.Vec.{vec_capacity};
-ghost use Rattle.head_column.specs.Merging.{absorb, ends_before, span_of, with_run};
-ghost use Rattle.head_column.specs.Runs.{AreApart};
+ghost use Rattle.head_column.specs.Merging.{absorb, ends_before, span_of, with_run, with_runs};
+ghost use Rattle.head_column.specs.Runs.{AreApart, IsRun};
 ghost use Rattle.head_column.specs.Validity.{raise_first, runs_from};
 
 use crate::Run;
-use std::alloc::AllocError;
+use std::alloc::{AllocError, Global};
 
 // Returns whether the first run ends before the second begins, with a time between them. Does not overflow at the greatest time.
 fn ends_before(first: &Run, second: &Run) -> bool
@@ -73,6 +73,32 @@ pub(crate) fn merge(runs: &mut Vec<Run>, run: Run) -> Result<(), AllocError>
         runs.drain(first + 1..last);
     }
     Ok(())
+}
+
+// Merges runs, which may come in any order. Takes O(n log n) time if their least times ascend.
+fn merge_all(alloc: Global, runs: &[Run]) -> Result<Vec<Run>, AllocError>
+    requires { All IsRun runs.now }
+    ensures { IfOk result (λ merged. merged.items ≡ with_runs [] runs.now) }
+{
+    let mut merged = Vec::new(alloc);
+    for run in runs {
+        merge(&mut merged, *run)?;
+    }
+    Ok(merged)
+}
+
+/// Returns the runs with more of them, which may come in any order. Takes O(n log n) time, where n counts all these runs, and memory
+/// for a constant multiple of n. Returns an error if out of memory.
+pub(crate) fn join(alloc: Global, runs: &[Run], more: &[Run]) -> Result<Vec<Run>, AllocError>
+    requires apart { AreApart runs.now }
+    requires some { All IsRun more.now }
+    ensures { IfOk result (λ joined. joined.items ≡ with_runs runs.now more.now) }
+{
+    let mut all = Vec::with_capacity(alloc, runs.len())?;
+    all.extend_from_slice(runs)?;
+    all.extend_from_slice(more)?;
+    all.sort_unstable_by_key(|run| run.min_time);
+    merge_all(alloc, &all)
 }
 
 // Returns the number of runs that end before the time, by binary search.

@@ -11,6 +11,7 @@ ghost use Rattle.head_core.specs.Heads.{HeadValue};
 ghost use Rattle.head_core.specs.Room.{spare_at};
 
 use crate::reserved::Reserved;
+use hash_seed::HashSeed;
 use head_column::Column;
 use head_postings::{Batch, Postings};
 use head_series::{Plan, Ready, SeriesTable, Slot};
@@ -29,8 +30,8 @@ pub(crate) struct Draft {
     pub(crate) ready: VecDeque<Ready>,
     pub(crate) columns: VecDeque<Column>,
     series: SeriesTable,
-    slots: IndexMap<u64, u32>,
-    counts: IndexMap<u32, usize>,
+    slots: IndexMap<u64, u32, HashSeed>,
+    counts: IndexMap<u32, usize, HashSeed>,
 }
 
 // Written out so that the proof of a function that drops a draft has one call, and not a copy of this.
@@ -68,14 +69,15 @@ impl Draft {
     pub(crate) fn new(table: &SeriesTable, postings: &Postings, alloc: Global) -> Draft
         ensures { (h : HeadValue) → h.content.table ≡ table.now → h.content.postings ≡ postings.now → length h.room.spares ≡ length table.now.series → IsDraft h result [] }
     {
+        let seed = table.seed();
         Draft {
             plan: table.plan(),
             batch: postings.batch(),
             ready: VecDeque::new(alloc),
             columns: VecDeque::new(alloc),
-            series: SeriesTable::new(alloc, u32::MAX),
-            slots: IndexMap::new(alloc),
-            counts: IndexMap::new(alloc),
+            series: SeriesTable::with_seed(alloc, seed, u32::MAX),
+            slots: IndexMap::with_hasher(alloc, seed),
+            counts: IndexMap::with_hasher(alloc, seed),
         }
     }
 

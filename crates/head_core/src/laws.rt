@@ -5,7 +5,7 @@ ghost use Rattle.std.specs.List.{flat_map};
 ghost use Rattle.wal_record.specs.declared.record.WalRecord.{WalRecord as LogRecord};
 ghost use Rattle.wal_record.specs.Entries.{Entry, entries_of};
 ghost use Rattle.wal_record.specs.Labels.{same_labels};
-ghost use Rattle.wal_record.specs.Validity.{rewritten, valid_entry};
+ghost use Rattle.wal_record.specs.Validity.{rewritten, valid, valid_entry};
 ghost use Rattle.head_column.specs.Chunks.{chunks_of};
 ghost use Rattle.head_column.specs.Histories.{history_after, history_outcome, latest, no_history};
 ghost use Rattle.head_column.specs.Hours.{is_in_hour};
@@ -102,6 +102,18 @@ pub fn truncation()
 pub fn checkpoint()
     ensures { (n m : ℤ) → n ≤ℤ m → (rs more : List LogRecord) (c d : Content) → IsContentOf (taken_of m (rewritten n rs ++ more)) c → c.min_valid ≡ m →
         IsContentOf (taken_of m (rs ++ more)) d → d.min_valid ≡ m →
+        AreAlike c (record d { counts = c.counts }) × HaveFates c.counts d.counts }
+{
+    // the laws that the proof rests on
+    slot_is_place();
+    columns_follow_items();
+}
+
+/// Records of which a least valid time leaves the same entries have the same content with it, except for the counts of records and of expired
+/// entries. So have the records of any checkpoint that loses no valid entry.
+pub fn same_entries()
+    ensures { (m : ℤ) (rs qs : List LogRecord) (c d : Content) → entries_of (valid m rs) ≡ entries_of (valid m qs) → IsContentOf (taken_of m rs) c → c.min_valid ≡ m →
+        IsContentOf (taken_of m qs) d → d.min_valid ≡ m →
         AreAlike c (record d { counts = c.counts }) × HaveFates c.counts d.counts }
 {
     // the laws that the proof rests on

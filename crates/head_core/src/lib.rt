@@ -21,7 +21,8 @@ pub use head_resolver::{
 };
 pub use head_series::Slot;
 pub use laws::{
-    alike_answers, checkpoint, items_make_series, limits_hold_before, one_content, truncation,
+    alike_answers, checkpoint, items_make_series, limits_hold_before, one_content, same_entries,
+    truncation,
 };
 pub use postings::postings_of;
 pub use reserved::Reserved;

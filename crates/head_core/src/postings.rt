@@ -12,7 +12,7 @@ use std::alloc::{AllocError, Global};
 pub fn postings_of(alloc: Global, table: &SeriesTable) -> Result<Postings, AllocError>
     ensures postings { IfOk result (λ postings. IsPostingsOf (by_slot table.now.series) postings) }
 {
-    let mut postings = Postings::new(alloc);
+    let mut postings = Postings::with_seed(alloc, table.seed());
     for number in 0..table.len() {
         let slot = Slot::new(number as u32);
         postings.add(slot, &table.labels(slot)?)?;

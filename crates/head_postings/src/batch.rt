@@ -5,6 +5,7 @@ ghost use Rattle.head_postings.specs.Postings.{Labels};
 ghost use Rattle.head_postings.specs.Room.{IsCountOf};
 
 use crate::names::Names;
+use hash_seed::HashSeed;
 use std::alloc::{AllocError, Global};
 use std::marker::Model;
 use wal_record::{LabelSet, Slot};
@@ -35,13 +36,13 @@ impl Model for Batch {
 }
 
 impl Batch {
-    // Makes a batch of no label sets.
-    pub(crate) fn new(alloc: Global) -> Batch
+    // Makes a batch of no label sets, with hashes by the seed.
+    pub(crate) fn new(alloc: Global, seed: HashSeed) -> Batch
         ensures { IsCountOf [] result }
     {
         Batch {
             many: 0,
-            names: Names::new(alloc),
+            names: Names::new(alloc, seed),
         }
     }
 

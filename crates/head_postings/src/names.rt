@@ -8,6 +8,7 @@ ghost use Rattle.head_postings.specs.Room.{room_of};
 ghost use Rattle.head_postings.specs.Slots.{IsAscending, IsUnion};
 
 use crate::values::Values;
+use hash_seed::HashSeed;
 use indexmap::IndexMap;
 use std::alloc::{AllocError, Global};
 use std::marker::Model;
@@ -16,7 +17,7 @@ use wal_record::{LabelSet, Slot};
 /// For each name, the slots of each value.
 #[derive(Debug, Drop)]
 pub(crate) struct Names {
-    values: IndexMap<Vec<u8>, Values>,
+    values: IndexMap<Vec<u8>, Values, HashSeed>,
 }
 
 impl Model for Names {
@@ -32,13 +33,18 @@ impl Model for Names {
 }
 
 impl Names {
-    // Makes a map of no names.
-    pub(crate) fn new(alloc: Global) -> Names
+    // Makes a map of no names, with hashes by the seed.
+    pub(crate) fn new(alloc: Global, seed: HashSeed) -> Names
         ensures { result.slots ≡ [] }
     {
         Names {
-            values: IndexMap::new(alloc),
+            values: IndexMap::with_hasher(alloc, seed),
         }
+    }
+
+    // Returns the seed of the hashes.
+    pub(crate) fn seed(&self) -> HashSeed {
+        *self.values.hasher()
     }
 
     // Borrows the slots of a label.
@@ -64,7 +70,7 @@ impl Names {
             None => {
                 let alloc = *self.values.allocator();
                 let key = Vec::from_slice(alloc, name)?;
-                let mut values = Values::new(alloc);
+                let mut values = Values::new(alloc, self.seed());
                 values.push(value, slot)?;
                 values.trim();
                 self.values.insert(key, values)?;
@@ -130,7 +136,7 @@ impl Names {
             None => {
                 let alloc = *self.values.allocator();
                 let key = Vec::from_slice(alloc, name)?;
-                let mut values = Values::new(alloc);
+                let mut values = Values::new(alloc, self.seed());
                 values.make_room(value, more)?;
                 values.trim();
                 self.values.insert(key, values)?;
@@ -213,7 +219,7 @@ impl Names {
         ensures { IfOk result (λ copy. copy.slots ≡ self.now.slots) }
     {
         let alloc = *self.values.allocator();
-        let mut values = IndexMap::new(alloc);
+        let mut values = IndexMap::with_hasher(alloc, self.seed());
         values.reserve(self.values.len())?;
         for i in 0..self.values.len() {
             match self.values.get_index(i) {

@@ -8,6 +8,7 @@ ghost use Rattle.head_postings.specs.Slots.{AreBelow, IsAscending};
 use crate::batch::Batch;
 use crate::names::Names;
 use crate::union::united;
+use hash_seed::HashSeed;
 use std::alloc::{AllocError, Global};
 use std::marker::Model;
 use wal_record::{LabelSet, Slot};
@@ -51,12 +52,19 @@ impl Model for Postings {
 }
 
 impl Postings {
-    /// Makes postings of no slots.
+    /// Makes postings of no slots. Their hashes are those of the seed that all know.
     pub fn new(alloc: Global) -> Postings
         ensures { IsPostingsOf [] result }
     {
+        Postings::with_seed(alloc, HashSeed::known())
+    }
+
+    /// Makes postings of no slots, with hashes by a seed.
+    pub fn with_seed(alloc: Global, seed: HashSeed) -> Postings
+        ensures { IsPostingsOf [] result }
+    {
         Postings {
-            names: Names::new(alloc),
+            names: Names::new(alloc, seed),
             all: Vec::new(alloc),
         }
     }
@@ -81,7 +89,7 @@ impl Postings {
     pub fn batch(&self) -> Batch
         ensures { IsReserved self.now [] result }
     {
-        Batch::new(*self.all.allocator())
+        Batch::new(*self.all.allocator(), self.names.seed())
     }
 
     /// Adds a label set to a batch, and allocates memory for one slot for each label set of the batch. Every list is unchanged.

@@ -6,6 +6,7 @@ ghost use Rattle.head_postings.specs.Postings.{listed};
 ghost use Rattle.head_postings.specs.Slots.{IsAscending, IsUnion};
 
 use crate::union::united;
+use hash_seed::HashSeed;
 use indexmap::IndexMap;
 use std::alloc::{AllocError, Global};
 use std::marker::Model;
@@ -14,7 +15,7 @@ use wal_record::Slot;
 /// For each value of one name, its slots.
 #[derive(Debug, Drop)]
 pub(crate) struct Values {
-    lists: IndexMap<Vec<u8>, Vec<Slot>>,
+    lists: IndexMap<Vec<u8>, Vec<Slot>, HashSeed>,
 }
 
 impl Model for Values {
@@ -31,12 +32,12 @@ impl Model for Values {
 }
 
 impl Values {
-    // Makes a map of no values.
-    pub(crate) fn new(alloc: Global) -> Values
+    // Makes a map of no values, with hashes by the seed.
+    pub(crate) fn new(alloc: Global, seed: HashSeed) -> Values
         ensures { result.slots ≡ [] }
     {
         Values {
-            lists: IndexMap::new(alloc),
+            lists: IndexMap::with_hasher(alloc, seed),
         }
     }
 
@@ -161,7 +162,7 @@ impl Values {
         ensures { IfOk result (λ copy. copy.slots ≡ self.now.slots) }
     {
         let alloc = *self.lists.allocator();
-        let mut lists = IndexMap::new(alloc);
+        let mut lists = IndexMap::with_hasher(alloc, *self.lists.hasher());
         lists.reserve(self.lists.len())?;
         for i in 0..self.lists.len() {
             match self.lists.get_index(i) {

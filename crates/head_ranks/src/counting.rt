@@ -11,6 +11,7 @@ ghost use Rattle.head_ranks.specs.Counting.{IsCountOf};
 ghost use Rattle.head_ranks.specs.Ranks.{AreLabelCounts};
 
 use crate::counts::{LabelCount, Totals};
+use hash_seed::HashSeed;
 use head_core::Head;
 use indexmap::IndexSet;
 use std::alloc::{AllocError, Global};
@@ -25,7 +26,7 @@ struct LabelKey<'a> {
 
 // The counts of the labels so far, and the labels that they are of, both in the order of first sight.
 struct Counter<'a> {
-    seen: IndexSet<LabelKey<'a>>,
+    seen: IndexSet<LabelKey<'a>, HashSeed>,
     counts: Vec<LabelCount<'a>>,
     // For each place in a label set, the index of the count of the label that was last looked up there. A hint: no count depends on it.
     places: Vec<usize>,
@@ -43,12 +44,12 @@ impl Drop for Counter<'_> {
 }
 
 impl<'a> Counter<'a> {
-    // Makes the counter of no series.
-    fn new(alloc: Global) -> Counter<'a>
+    // Makes the counter of no series, with hashes by a seed.
+    fn new(alloc: Global, seed: HashSeed) -> Counter<'a>
         ensures { IsCountOf [] result }
     {
         Counter {
-            seen: IndexSet::new(alloc),
+            seen: IndexSet::with_hasher(alloc, seed),
             counts: Vec::new(alloc),
             places: Vec::new(alloc),
         }
@@ -144,7 +145,7 @@ pub fn label_counts<'a>(alloc: Global, head: &'a Head) -> Result<Vec<LabelCount<
     requires { head.now.failed ≡ false }
     ensures { IfOk result (λ counts. AreLabelCounts head.now.content counts.items) }
 {
-    let mut counter = Counter::new(alloc);
+    let mut counter = Counter::new(alloc, head.seed());
     let series = head.series() as u32;
     for number in 0..series {
         counter.add_series(head, Slot::new(number))?;

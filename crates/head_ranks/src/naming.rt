@@ -9,6 +9,7 @@ ghost use Rattle.head_ranks.specs.Counting.{AreNamed};
 ghost use Rattle.head_ranks.specs.Ranks.{AreLabelCounts, AreValueCounts};
 
 use crate::counts::{LabelCount, NameCount};
+use hash_seed::HashSeed;
 use indexmap::IndexSet;
 use std::alloc::{AllocError, Global};
 
@@ -17,7 +18,7 @@ const METRIC_NAME: &[u8] = b"__name__";
 
 // The counts of the names so far, and the names that they are of, both in the order of first sight.
 struct Namer<'a> {
-    seen: IndexSet<&'a [u8]>,
+    seen: IndexSet<&'a [u8], HashSeed>,
     counts: Vec<NameCount<'a>>,
 }
 
@@ -32,12 +33,12 @@ impl Drop for Namer<'_> {
 }
 
 impl<'a> Namer<'a> {
-    // Makes the namer of no labels.
-    fn new(alloc: Global) -> Namer<'a>
+    // Makes the namer of no labels, with hashes by a seed.
+    fn new(alloc: Global, seed: HashSeed) -> Namer<'a>
         ensures { AreNamed [] result }
     {
         Namer {
-            seen: IndexSet::new(alloc),
+            seen: IndexSet::with_hasher(alloc, seed),
             counts: Vec::new(alloc),
         }
     }
@@ -71,15 +72,16 @@ impl<'a> Namer<'a> {
 }
 
 /// Returns each name of the labels once, in the order of first sight, with the number of the labels that have it: of the labels of
-/// `label_counts` the number of the name's values. Returns an error if out of memory.
+/// `label_counts` the number of the name's values. The names are found by hashes of the seed. Returns an error if out of memory.
 pub fn name_counts<'a>(
     alloc: Global,
+    seed: HashSeed,
     labels: &[LabelCount<'a>],
 ) -> Result<Vec<NameCount<'a>>, AllocError>
     ensures counts { IfOk result (λ names. AreNameCounts labels.now names.items) }
     ensures values { (c : Content) → AreLabelCounts c labels.now → IfOk result (λ names. AreValueCounts c names.items) }
 {
-    let mut namer = Namer::new(alloc);
+    let mut namer = Namer::new(alloc, seed);
     for label in labels {
         namer.add(label)?;
     }

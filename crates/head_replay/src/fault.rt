@@ -2,6 +2,7 @@
 
 use head_crew::CrewFault;
 use head_rounds::RoundFault;
+use std::alloc::AllocError;
 use std::error::Error;
 use std::fmt;
 
@@ -61,5 +62,16 @@ impl From<CrewFault> for ReplayFault {
             CrewFault::Memory => ReplayFault::Memory,
             CrewFault::Workers => ReplayFault::Workers,
         }
+    }
+}
+
+impl From<AllocError> for ReplayFault {
+    ghost use Rattle.std.specs.Prelude.{◌≡◌};
+    ghost use Rattle.head_replay.specs.declared.fault.ReplayFault.TheVariants.{Memory};
+
+    ghost from_gives = { λ _ e. e ≡ Memory };
+
+    fn from(_error: AllocError) -> ReplayFault {
+        ReplayFault::Memory
     }
 }

@@ -23,7 +23,7 @@ fn partial(
     requires most { workers ≤ 64 }
     ensures postings { IfOk result (λ postings. IsPostingsOf (belonging workers worker (worker + 1) (by_slot table.now.series)) postings) }
 {
-    let mut postings = Postings::new(alloc);
+    let mut postings = Postings::with_seed(alloc, table.seed());
     let mut number = worker;
     while number < table.len() {
         let slot = Slot::new(number as u32);

@@ -5,6 +5,7 @@ ghost use Rattle.head_series.specs.Table.{slot_at};
 ghost use Rattle.head_resolver.specs.Changes.{slot_before, AreBelow, Change};
 ghost use Rattle.head_resolver.specs.Links.{last_of, AreInOrder};
 
+use hash_seed::HashSeed;
 use head_series::{SeriesTable, Slot};
 use indexmap::IndexMap;
 use std::alloc::{AllocError, Global};
@@ -28,7 +29,7 @@ struct Note {
 #[derive(Debug)]
 pub struct Changes {
     notes: Vec<Note>,
-    lasts: IndexMap<u64, usize>,
+    lasts: IndexMap<u64, usize, HashSeed>,
     // false only if a change was added at a place before that of an earlier one
     in_order: bool,
 }
@@ -57,13 +58,13 @@ impl Model for Changes {
 }
 
 impl Changes {
-    /// Returns no changes. Allocates nothing.
-    pub fn new(alloc: Global) -> Changes
+    /// Returns no changes, which are found by hashes of the seed. Allocates nothing.
+    pub fn new(alloc: Global, seed: HashSeed) -> Changes
         ensures { result ≡ [] }
     {
         Changes {
             notes: Vec::new(alloc),
-            lasts: IndexMap::new(alloc),
+            lasts: IndexMap::with_hasher(alloc, seed),
             in_order: true,
         }
     }

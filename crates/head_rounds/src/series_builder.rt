@@ -7,12 +7,12 @@ ghost use Rattle.head_resolver.specs.Counts.{counts_of};
 ghost use Rattle.head_resolver.specs.Resolved.{resolved};
 ghost use Rattle.head_core.specs.Applied.{AreCountsOfOutcomes, new_slots, outcomes_after};
 
-use head_column::{Column, Item, Outcome, Tally};
+use head_column::{Column, GatheringColumn, Item, Outcome, Tally};
 use head_core::items_make_series;
 use head_deal::Builder;
 use std::alloc::Global;
 
-/// The builder of a series: a whole column for a head, or its greatest time for a tally.
+/// The builder of a series: what becomes a whole column of a head, or its greatest time for a tally.
 pub trait SeriesBuilder: Builder<Item = Item, Outcome = Outcome> {
     /// A builder with the value of a new series.
     ghost blank: { Self };
@@ -33,6 +33,20 @@ impl SeriesBuilder for Column {
 
     fn of_new_series(alloc: Global) -> Column {
         Column::new(alloc)
+    }
+
+    fn counts_of_outcomes() {
+        items_make_series();
+    }
+}
+
+impl SeriesBuilder for GatheringColumn {
+    ghost use Rattle.head_column.specs.Histories.{no_history};
+
+    ghost blank = { no_history };
+
+    fn of_new_series(alloc: Global) -> GatheringColumn {
+        GatheringColumn::new(alloc)
     }
 
     fn counts_of_outcomes() {

@@ -9,19 +9,20 @@ use Rattle.std.proofs.Math.Seq.{drop-cons}
 use Rattle.std.proofs.lemmas.List.{drop_all}
 use Rattle.wal_record.specs.declared.labels.Label.{Label}
 use Rattle.wal_record.specs.Labels.{IsLabelSet, IsNext, compare_labels}
+use Rattle.hash_seed.specs.declared.seed.HashSeed.{HashSeed}
 use Rattle.head_series.specs.Rows.{IsLast, labels_hash, labels_in, or_zero}
 use Rattle.head_series.specs.Sound.{IsSound}
 use Rattle.head_series.specs.Texts.{Text, TextTable}
 
 -- a table of the same fields
-pub IsSound-alike : (t u : TextTable) (most : ℕ) (nss mss : List (List (ℕ × ℕ))) (befores cefores : List ℕ) (last_by_hash masts : List (ℕ × ℕ)) (many same : ℕ) → IsSound t most nss befores last_by_hash many
-    → u.texts ≡ t.texts → u.most ≡ t.most → mss ≡ nss → cefores ≡ befores → ((h : ℕ) → lookup (nat_eq h) masts ≡ lookup (nat_eq h) last_by_hash) → same ≡ many → IsSound u most mss cefores masts same
-IsSound-alike t u most nss mss befores cefores last_by_hash masts many same s tu tm ns bs ls hs =
-    subst (λ z. IsSound (table z u.most) most mss cefores masts same) (sym tu)
-    (subst (λ z. IsSound (table t.texts z) most mss cefores masts same) (sym tm)
-    (subst (λ z. IsSound (table t.texts t.most) most z cefores masts same) (sym ns)
-    (subst (λ z. IsSound (table t.texts t.most) most nss z masts same) (sym bs)
-    (subst (λ z. IsSound (table t.texts t.most) most nss befores masts z) (sym hs)
+pub IsSound-alike : (seed : HashSeed) (t u : TextTable) (most : ℕ) (nss mss : List (List (ℕ × ℕ))) (befores cefores : List ℕ) (last_by_hash masts : List (ℕ × ℕ)) (many same : ℕ) → IsSound seed t most nss befores last_by_hash many
+    → u.texts ≡ t.texts → u.most ≡ t.most → mss ≡ nss → cefores ≡ befores → ((h : ℕ) → lookup (nat_eq h) masts ≡ lookup (nat_eq h) last_by_hash) → same ≡ many → IsSound seed u most mss cefores masts same
+IsSound-alike seed t u most nss mss befores cefores last_by_hash masts many same s tu tm ns bs ls hs =
+    subst (λ z. IsSound seed (table z u.most) most mss cefores masts same) (sym tu)
+    (subst (λ z. IsSound seed (table t.texts z) most mss cefores masts same) (sym tm)
+    (subst (λ z. IsSound seed (table t.texts t.most) most z cefores masts same) (sym ns)
+    (subst (λ z. IsSound seed (table t.texts t.most) most nss z masts same) (sym bs)
+    (subst (λ z. IsSound seed (table t.texts t.most) most nss befores masts z) (sym hs)
     (record {
       few = s.few;
       limit = s.limit;
@@ -39,7 +40,7 @@ IsSound-alike t u most nss mss befores cefores last_by_hash masts many same s tu
       table ts most = record { texts = ts; most = most; room = u.room }
 
       hashes : TextTable → List (List (ℕ × ℕ)) → List ℕ
-      hashes t nss = map labels_hash (map (labels_in t.texts) nss)
+      hashes t nss = map (labels_hash seed) (map (labels_in t.texts) nss)
 
 -- a label of a label set, and the labels before it
 pub name_at : (ls : List Label) (i : ℕ) (l : Label) → IsLabelSet ls → slice_get ls i ≡ Some l → 0 < length l.name

@@ -4,6 +4,7 @@ use Rattle.wal_record.specs.declared.labels.Label.{Label}
 use Rattle.wal_record.specs.Labels.{same_text, same_labels}
 use Rattle.wal_record.proofs.Equality.{labels_same}
 use Rattle.head_series.specs.Table.{Labels}
+use Rattle.hash_seed.specs.declared.seed.HashSeed.{HashSeed}
 use Rattle.head_series.specs.Rows.{label, named, labels_in, labels_hash, IsLast, IsChained, AreWithin, AreAllWithin}
 use Rattle.head_series.specs.Texts.{Text, place}
 use Rattle.std.specs.Option.{option_map}
@@ -70,8 +71,8 @@ place_absent l (s ∷ ss) h = at (same_labels l s) refl (place_absent l ss (λ i
   at false e p = ap (option_map (λ n. n + 1)) p
 
 -- how far the search has come: no series from b on is the label set, and next leads to the last before b with its number
-abbrev pub IsSought : List Labels → Labels → ℕ → Type 0
-IsSought ss l next = (b : ℕ) × (IsLast (map labels_hash ss) b (labels_hash l) next) × (b ≤ length ss) × ((s : ℕ) → b ≤ s → slice_get ss s ≡ Some l → ⊥)
+abbrev pub IsSought : HashSeed → List Labels → Labels → ℕ → Type 0
+IsSought seed ss l next = (b : ℕ) × (IsLast (map (labels_hash seed) ss) b (labels_hash seed l) next) × (b ≤ length ss) × ((s : ℕ) → b ≤ s → slice_get ss s ≡ Some l → ⊥)
 
 split : (j b : ℕ) → (j < b) ⊎ (b ≤ j)
 split j zero = inr (omega arith)
@@ -86,37 +87,37 @@ get_within [] i x h = cc
 get_within (y ∷ ys) zero x h = omega arith
 get_within (y ∷ ys) (suc i) x h = let k = get_within ys i x h in omega (arith, k)
 
-pub sought_first : (ss : List Labels) (l : Labels) (last : ℕ → ℕ) (befores : List ℕ) (n : ℕ) → IsChained (map labels_hash ss) last befores → n ≡ last (labels_hash l) → IsSought ss l n
-sought_first ss l last befores n h e =
-    let many : length (map labels_hash ss) ≡ length ss = simp length-map in (
+pub sought_first : (seed : HashSeed) (ss : List Labels) (l : Labels) (last : ℕ → ℕ) (befores : List ℕ) (n : ℕ) → IsChained (map (labels_hash seed) ss) last befores → n ≡ last (labels_hash seed l) → IsSought seed ss l n
+sought_first seed ss l last befores n h e =
+    let many : length (map (labels_hash seed) ss) ≡ length ss = simp length-map in (
       length ss,
-      subst (λ k. IsLast (map labels_hash ss) (length ss) (labels_hash l) k) (sym e) (subst (λ k. IsLast (map labels_hash ss) k (labels_hash l) (last (labels_hash l))) many (h.ends (labels_hash l))),
+      subst (λ k. IsLast (map (labels_hash seed) ss) (length ss) (labels_hash seed l) k) (sym e) (subst (λ k. IsLast (map (labels_hash seed) ss) k (labels_hash seed l) (last (labels_hash seed l))) many (h.ends (labels_hash seed l))),
       omega arith,
       λ s g f. absurd (let k = get_within ss s l f in omega (arith, g, k)),
     )
 
-pub sought_next : (ss : List Labels) (l : Labels) (last : ℕ → ℕ) (befores : List ℕ) (n s : ℕ) → IsChained (map labels_hash ss) last befores → n ≡ s + 1 → (slice_get ss s ≡ Some l → ⊥) → IsSought ss l n → IsSought ss l (slice_index befores s)
-sought_next ss l last befores n s h e not_it (b, i, w, f) =
-    (s, h.before s (labels_hash l) (i.has s e), (let k = i.within in omega (arith, e, k, w)), λ j g m. rest j g m (split j (s + 1))) where
+pub sought_next : (seed : HashSeed) (ss : List Labels) (l : Labels) (last : ℕ → ℕ) (befores : List ℕ) (n s : ℕ) → IsChained (map (labels_hash seed) ss) last befores → n ≡ s + 1 → (slice_get ss s ≡ Some l → ⊥) → IsSought seed ss l n → IsSought seed ss l (slice_index befores s)
+sought_next seed ss l last befores n s h e not_it (b, i, w, f) =
+    (s, h.before s (labels_hash seed l) (i.has s e), (let k = i.within in omega (arith, e, k, w)), λ j g m. rest j g m (split j (s + 1))) where
       past : (j : ℕ) → slice_get ss j ≡ Some l → s < j → (j < b) ⊎ (b ≤ j) → ⊥
-      past j m q (inl u) = i.none j (omega (arith, e, q)) u (get_map labels_hash ss j l m)
+      past j m q (inl u) = i.none j (omega (arith, e, q)) u (get_map (labels_hash seed) ss j l m)
       past j m q (inr u) = f j u m
 
       rest : (j : ℕ) → s ≤ j → slice_get ss j ≡ Some l → (j < s + 1) ⊎ (s + 1 ≤ j) → ⊥
       rest j g m (inl q) = not_it (subst (λ k. slice_get ss k ≡ Some l) (let k : j ≡ s = omega (arith, g, q) in k) m)
       rest j g m (inr q) = past j m (omega (arith, q)) (split j b)
 
-pub sought_none : (ss : List Labels) (l : Labels) (n : ℕ) → n ≡ 0 → IsSought ss l n → None ≡ place (same_labels l) ss
-sought_none ss l n e (b, i, w, f) = place_absent l ss (λ j m. at j m (split j b)) where
+pub sought_none : (seed : HashSeed) (ss : List Labels) (l : Labels) (n : ℕ) → n ≡ 0 → IsSought seed ss l n → None ≡ place (same_labels l) ss
+sought_none seed ss l n e (b, i, w, f) = place_absent l ss (λ j m. at j m (split j b)) where
   at : (j : ℕ) → slice_get ss j ≡ Some l → (j < b) ⊎ (b ≤ j) → ⊥
-  at j m (inl u) = i.none j (omega (arith, e)) u (get_map labels_hash ss j l m)
+  at j m (inl u) = i.none j (omega (arith, e)) u (get_map (labels_hash seed) ss j l m)
   at j m (inr u) = f j u m
 
-pub sought_less : (ss : List Labels) (l : Labels) (last : ℕ → ℕ) (befores : List ℕ) (n s : ℕ) → IsChained (map labels_hash ss) last befores → n ≡ s + 1 → IsSought ss l n → slice_index befores s < n
-sought_less ss l last befores n s h e (b, i, w, f) = let k = (h.before s (labels_hash l) (i.has s e)).within in omega (arith, k, e)
+pub sought_less : (seed : HashSeed) (ss : List Labels) (l : Labels) (last : ℕ → ℕ) (befores : List ℕ) (n s : ℕ) → IsChained (map (labels_hash seed) ss) last befores → n ≡ s + 1 → IsSought seed ss l n → slice_index befores s < n
+sought_less seed ss l last befores n s h e (b, i, w, f) = let k = (h.before s (labels_hash seed l) (i.has s e)).within in omega (arith, k, e)
 
-pub sought_within : (ss : List Labels) (l : Labels) (n s : ℕ) → n ≡ s + 1 → IsSought ss l n → s < length ss
-sought_within ss l n s e (b, i, w, f) = let k = i.within in omega (arith, k, w, e)
+pub sought_within : (seed : HashSeed) (ss : List Labels) (l : Labels) (n s : ℕ) → n ≡ s + 1 → IsSought seed ss l n → s < length ss
+sought_within seed ss l n s e (b, i, w, f) = let k = i.within in omega (arith, k, w, e)
 
 pub all_within_at : (many : ℕ) (nss : List (List (ℕ × ℕ))) (i : ℕ) (ns : List (ℕ × ℕ)) → AreAllWithin many nss → slice_get nss i ≡ Some ns → AreWithin many ns
 all_within_at many [] i ns h e = cc

@@ -8,6 +8,7 @@ use Rattle.std.proofs.lemmas.List.Elements.{All-push}
 use Rattle.wal_record.specs.Labels.{same_labels, IsLabelSet}
 use Rattle.wal_record.proofs.Equality.{labels_same}
 use Rattle.head_series.specs.Texts.{Text, TextTable, with_texts}
+use Rattle.hash_seed.specs.declared.seed.HashSeed.{HashSeed}
 use Rattle.head_series.specs.Rows.{labels_in, labels_hash, AreWithin, AreAllWithin, AreDistinct, IsLast, IsChained, or_zero}
 use Rattle.head_series.specs.Table.{Labels, has_series}
 use Rattle.head_series.proofs.Distinct.{distinct_push}
@@ -106,26 +107,26 @@ chained_push xs last now befores x q c many e g = record {
       let to : slice_index (befores ++ q ∷ []) s ≡ last h = index_end befores q s (omega (arith, at, many)) ∙ e ∙ ap last j in
       subst (λ n. IsLast (xs ++ x ∷ []) s h n) (sym to) (last_front xs x s h (last h) (omega (arith, at)) (subst (λ n. IsLast xs n h (last h)) (sym at) (c.ends h)))
 
-pub IsSound-push : (old new : TextTable) (us : List Text) (most : ℕ) (nss : List (List (ℕ × ℕ))) (befores : List ℕ) (last_by_hash more : List (ℕ × ℕ)) (many : ℕ) (ns : List (ℕ × ℕ)) (l : Labels) (q : ℕ)
-    → IsSound old most nss befores last_by_hash many → new.texts ≡ with_texts old.texts us → new.most ≡ old.most → AreWithin (length new.texts) ns → labels_in new.texts ns ≡ l
-    → length nss < most → IsLabelSet l → has_series (map (labels_in old.texts) nss) l ≡ false → q ≡ or_zero (lookup (nat_eq (labels_hash l)) last_by_hash)
-    → ((h : ℕ) → or_zero (lookup (nat_eq h) more) ≡ (if labels_hash l == h then length nss + 1 else or_zero (lookup (nat_eq h) last_by_hash)))
-    → (map (labels_in new.texts) (nss ++ ns ∷ []) ≡ map (labels_in old.texts) nss ++ l ∷ []) × IsSound new most (nss ++ ns ∷ []) (befores ++ q ∷ []) more (many + 1)
-IsSound-push old new us most nss befores last_by_hash more many ns l q s t m a n few order absent e g = at (with_texts_more us old.texts) where
+pub IsSound-push : (seed : HashSeed) (old new : TextTable) (us : List Text) (most : ℕ) (nss : List (List (ℕ × ℕ))) (befores : List ℕ) (last_by_hash more : List (ℕ × ℕ)) (many : ℕ) (ns : List (ℕ × ℕ)) (l : Labels) (q : ℕ)
+    → IsSound seed old most nss befores last_by_hash many → new.texts ≡ with_texts old.texts us → new.most ≡ old.most → AreWithin (length new.texts) ns → labels_in new.texts ns ≡ l
+    → length nss < most → IsLabelSet l → has_series (map (labels_in old.texts) nss) l ≡ false → q ≡ or_zero (lookup (nat_eq (labels_hash seed l)) last_by_hash)
+    → ((h : ℕ) → or_zero (lookup (nat_eq h) more) ≡ (if labels_hash seed l == h then length nss + 1 else or_zero (lookup (nat_eq h) last_by_hash)))
+    → (map (labels_in new.texts) (nss ++ ns ∷ []) ≡ map (labels_in old.texts) nss ++ l ∷ []) × IsSound seed new most (nss ++ ns ∷ []) (befores ++ q ∷ []) more (many + 1)
+IsSound-push seed old new us most nss befores last_by_hash more many ns l q s t m a n few order absent e g = at (with_texts_more us old.texts) where
   long : length (nss ++ ns ∷ []) ≡ length nss + 1
   long = length-push nss ns
 
   at : (rest : List Text) × (with_texts old.texts us ≡ old.texts ++ rest)
-      → (map (labels_in new.texts) (nss ++ ns ∷ []) ≡ map (labels_in old.texts) nss ++ l ∷ []) × IsSound new most (nss ++ ns ∷ []) (befores ++ q ∷ []) more (many + 1)
+      → (map (labels_in new.texts) (nss ++ ns ∷ []) ≡ map (labels_in old.texts) nss ++ l ∷ []) × IsSound seed new most (nss ++ ns ∷ []) (befores ++ q ∷ []) more (many + 1)
   at (rest, f) =
       let grown : new.texts ≡ old.texts ++ rest = t ∙ f in
       let longer : length old.texts ≤ length new.texts = (let k = simp length-append at (ap length grown) in omega (arith, k)) in
       let front : map (labels_in new.texts) nss ≡ map (labels_in old.texts) nss = ap (λ z. map (labels_in z) nss) grown ∙ series_front old.texts rest nss s.within in
       let all : map (labels_in new.texts) (nss ++ ns ∷ []) ≡ map (labels_in old.texts) nss ++ l ∷ [] =
       map-append (labels_in new.texts) nss (ns ∷ []) ∙ ap (λ z. z ++ labels_in new.texts ns ∷ []) front ∙ ap (λ z. map (labels_in old.texts) nss ++ z ∷ []) n in
-      let numbers : map labels_hash (map (labels_in new.texts) (nss ++ ns ∷ [])) ≡ map labels_hash (map (labels_in old.texts) nss) ++ labels_hash l ∷ [] =
-      ap (map labels_hash) all ∙ map-append labels_hash (map (labels_in old.texts) nss) (l ∷ []) in
-      let hashed : length (map labels_hash (map (labels_in old.texts) nss)) ≡ length nss = (simp length-map) in (
+      let numbers : map (labels_hash seed) (map (labels_in new.texts) (nss ++ ns ∷ [])) ≡ map (labels_hash seed) (map (labels_in old.texts) nss) ++ labels_hash seed l ∷ [] =
+      ap (map (labels_hash seed)) all ∙ map-append (labels_hash seed) (map (labels_in old.texts) nss) (l ∷ []) in
+      let hashed : length (map (labels_hash seed) (map (labels_in old.texts) nss)) ≡ length nss = (simp length-map) in (
         all,
         record {
           few = omega (arith, few, long);
@@ -136,7 +137,7 @@ IsSound-push old new us most nss befores last_by_hash more many ns l q s t m a n
           befored = length-push befores q ∙ (let k = s.befored in let j : length befores + 1 ≡ length (nss ++ ns ∷ []) = omega (arith, k, long) in j);
           counted = (let k = s.counted in omega (arith, k, long));
           chained = subst (λ z. IsChained z (λ h. or_zero (lookup (nat_eq h) more)) (befores ++ q ∷ [])) (sym numbers)
-              (chained_push (map labels_hash (map (labels_in old.texts) nss)) (λ h. or_zero (lookup (nat_eq h) last_by_hash)) (λ h. or_zero (lookup (nat_eq h) more)) befores (labels_hash l) q s.chained
-              (s.befored ∙ sym hashed) e (λ h. g h ∙ ap (λ z. if labels_hash l == h then z + 1 else or_zero (lookup (nat_eq h) last_by_hash)) (sym hashed)));
+              (chained_push (map (labels_hash seed) (map (labels_in old.texts) nss)) (λ h. or_zero (lookup (nat_eq h) last_by_hash)) (λ h. or_zero (lookup (nat_eq h) more)) befores (labels_hash seed l) q s.chained
+              (s.befored ∙ sym hashed) e (λ h. g h ∙ ap (λ z. if labels_hash seed l == h then z + 1 else or_zero (lookup (nat_eq h) last_by_hash)) (sym hashed)));
         },
       )

@@ -6,6 +6,7 @@ ghost use Rattle.head_series.specs.Rows.{labels_in, AreWithin};
 ghost use Rattle.head_series.specs.Texts.{has_text, place, with_text, with_texts, texts_of};
 
 use crate::ready::Ready;
+use hash_seed::HashSeed;
 use indexmap::IndexSet;
 use std::alloc::{AllocError, AllocFailed, Global};
 use std::error::Error;
@@ -59,7 +60,7 @@ impl<T: Drop> From<AllocFailed<T>> for InternFault {
 /// of their number.
 #[derive(Debug)]
 pub struct Interner {
-    texts: IndexSet<Vec<u8>>,
+    texts: IndexSet<Vec<u8>, HashSeed>,
     most: u32,
 }
 
@@ -88,13 +89,21 @@ impl Model for Interner {
 }
 
 impl Interner {
-    /// Returns an interner of no texts, for at most `most` texts. Allocates nothing.
+    /// Returns an interner of no texts, for at most `most` texts. Its hashes are those of the seed that all know. Allocates nothing.
     pub fn new(alloc: Global, most: u32) -> Interner
         ensures texts { result.texts ≡ [] }
         ensures most { result.most ≡ most }
     {
+        Interner::with_seed(alloc, HashSeed::known(), most)
+    }
+
+    /// Returns an interner of no texts, as `new` does, with hashes by a seed.
+    pub fn with_seed(alloc: Global, seed: HashSeed, most: u32) -> Interner
+        ensures texts { result.texts ≡ [] }
+        ensures most { result.most ≡ most }
+    {
         Interner {
-            texts: IndexSet::new(alloc),
+            texts: IndexSet::with_hasher(alloc, seed),
             most,
         }
     }
@@ -335,7 +344,11 @@ impl Interner {
         ensures texts { IfOk result (λ copy. copy.texts ≡ self.now.texts) }
         ensures most { IfOk result (λ copy. copy.most ≡ self.now.most) }
     {
-        let mut copy = Interner::new(*self.texts.allocator(), self.most);
+        let mut copy = Interner::with_seed(
+            *self.texts.allocator(),
+            *self.texts.hasher(),
+            self.most,
+        );
         for i in 0..self.texts.len() {
             match copy.number(self.bytes(i as u32)) {
                 Ok(_) => {}

@@ -6,6 +6,7 @@ ghost use Rattle.head_series.specs.Table.{has_series};
 
 use crate::interner::Interner;
 use crate::table::SeriesTable;
+use hash_seed::HashSeed;
 use series_references::LOW_END;
 use std::alloc::{AllocError, Global};
 use std::marker::Model;
@@ -44,8 +45,8 @@ impl Model for Plan {
 }
 
 impl Plan {
-    // Returns the plan of no bindings.
-    pub(crate) fn new(alloc: Global) -> Plan
+    // Returns the plan of no bindings, with hashes by the seed.
+    pub(crate) fn new(alloc: Global, seed: HashSeed) -> Plan
         ensures series { result.series ≡ [] }
         ensures texts { result.texts ≡ [] }
         ensures bindings { result.bindings ≡ 0 }
@@ -53,8 +54,8 @@ impl Plan {
         ensures high { result.high ≡ 0 }
     {
         Plan {
-            series: SeriesTable::new(alloc, u32::MAX),
-            texts: Interner::new(alloc, u32::MAX),
+            series: SeriesTable::with_seed(alloc, seed, u32::MAX),
+            texts: Interner::with_seed(alloc, seed, u32::MAX),
             bindings: 0,
             texts_most: 0,
             high: 0,

@@ -20,7 +20,7 @@ impl SeriesTable {
         // give the proof that neither passes the limit
         let _series = self.len();
         let _texts = self.texts.len();
-        Plan::new(*self.rows.allocator())
+        Plan::new(*self.rows.allocator(), self.seed)
     }
 
     /// Makes room for one more binding, after those of a plan, and adds it to the plan. Returns what `bind_ready` takes.

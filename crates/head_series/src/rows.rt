@@ -6,6 +6,7 @@ ghost use Rattle.indexmap.specs.IndexMap.{spare};
 ghost use Rattle.head_series.specs.Rows.{labels_in, AreWithin, or_zero};
 
 use crate::interner::Interner;
+use hash_seed::HashSeed;
 use indexmap::IndexMap;
 use std::alloc::{AllocError, Global};
 use wal_record::LabelSet;
@@ -48,7 +49,7 @@ pub(crate) fn last_numbers(rows: &[Row]) -> &[(u32, u32)] {
 }
 
 // Returns the slot of the last series whose label set has a hash, plus 1, or 0 if there is none.
-pub(crate) fn last_with(last_by_hash: &IndexMap<u64, u32>, hash: u64) -> u32
+pub(crate) fn last_with(last_by_hash: &IndexMap<u64, u32, HashSeed>, hash: u64) -> u32
     ensures { result ≡ or_zero (lookup (nat_eq hash) last_by_hash.now.entries) }
 {
     match last_by_hash.get(&hash) {
@@ -58,7 +59,7 @@ pub(crate) fn last_with(last_by_hash: &IndexMap<u64, u32>, hash: u64) -> u32
 }
 
 // Sets the last series with a hash; `last` is its slot plus 1.
-pub(crate) fn note_last(last_by_hash: &mut IndexMap<u64, u32>, hash: u64, last: u32)
+pub(crate) fn note_last(last_by_hash: &mut IndexMap<u64, u32, HashSeed>, hash: u64, last: u32)
     requires { 0 < spare last_by_hash.old }
     ensures room { spare last_by_hash.old ≤ spare last_by_hash.new + 1 }
     ensures lasts { (h : ℕ) → or_zero (lookup (nat_eq h) last_by_hash.new.entries) ≡ (if hash == h then last else or_zero (lookup (nat_eq h) last_by_hash.old.entries)) }

@@ -11,6 +11,7 @@ ghost use Rattle.head_series.specs.Texts.{place, with_texts, texts_of};
 use crate::interner::{InternFault, Interner};
 use crate::ready::Ready;
 use crate::rows::{Row, last_numbers, last_with, note_last};
+use hash_seed::HashSeed;
 use indexmap::IndexMap;
 use series_references::{Heap, References, with_reference};
 use std::alloc::{AllocError, Global};
@@ -66,7 +67,8 @@ pub struct Bound {
 pub struct SeriesTable {
     pub(crate) texts: Interner,
     pub(crate) rows: Vec<Row>,
-    pub(crate) last_by_hash: IndexMap<u64, u32>,
+    pub(crate) seed: HashSeed,
+    pub(crate) last_by_hash: IndexMap<u64, u32, HashSeed>,
     pub(crate) references: References,
     pub(crate) greatest: Option<u64>,
     pub(crate) most: u32,
@@ -78,6 +80,7 @@ impl Drop for SeriesTable {
         let SeriesTable {
             texts: _texts,
             rows: _rows,
+            seed: _,
             last_by_hash: _last_by_hash,
             references: _references,
             greatest: _,
@@ -113,11 +116,12 @@ impl Model for SeriesTable {
       };
     } };
 
-    ghost invariant = { λ t. IsSound t.texts t.most (map (λ r. r.numbers.items) t.rows.items) (map (λ r. r.previous) t.rows.items) t.last_by_hash.entries t.references.series };
+    ghost invariant = { λ t. IsSound t.seed t.texts t.most (map (λ r. r.numbers.items) t.rows.items) (map (λ r. r.previous) t.rows.items) t.last_by_hash.entries t.references.series };
 }
 
 impl SeriesTable {
-    /// Returns a table of no series, for at most `most` series and at most as many distinct label texts. Allocates nothing.
+    /// Returns a table of no series, for at most `most` series and at most as many distinct label texts. Its hashes are those of the seed that
+    /// all know. Allocates nothing.
     pub fn new(alloc: Global, most: u32) -> SeriesTable
         ensures series { result.series ≡ [] }
         ensures slots { (r : ℕ) → slot_at result r ≡ None }
@@ -126,11 +130,24 @@ impl SeriesTable {
         ensures most { result.most ≡ most }
         ensures table { IsTableOf [] result }
     {
+        SeriesTable::with_seed(alloc, HashSeed::known(), most)
+    }
+
+    /// Returns a table of no series, as `new` does, with hashes by a seed.
+    pub fn with_seed(alloc: Global, seed: HashSeed, most: u32) -> SeriesTable
+        ensures series { result.series ≡ [] }
+        ensures slots { (r : ℕ) → slot_at result r ≡ None }
+        ensures greatest { result.greatest ≡ None }
+        ensures texts { result.texts ≡ [] }
+        ensures most { result.most ≡ most }
+        ensures table { IsTableOf [] result }
+    {
         SeriesTable {
-            texts: Interner::new(alloc, most),
+            texts: Interner::with_seed(alloc, seed, most),
             rows: Vec::new(alloc),
-            last_by_hash: IndexMap::new(alloc),
-            references: References::new(alloc),
+            seed,
+            last_by_hash: IndexMap::with_hasher(alloc, seed),
+            references: References::new(alloc, seed),
             greatest: None,
             most,
         }
@@ -204,7 +221,7 @@ impl SeriesTable {
             Err(InternFault::Full) => return Err(BindFault::Full),
             Err(InternFault::Memory) => return Err(BindFault::Memory),
         };
-        let hash = labels.hash();
+        let hash = labels.hash(self.seed);
         let previous = last_with(&self.last_by_hash, hash);
         note_last(&mut self.last_by_hash, hash, slot + 1);
         self.rows.push_reserved(Row { numbers, previous });
@@ -230,7 +247,7 @@ impl SeriesTable {
         let _most = self.most;
         let number = self.references.next_slot();
         let numbers = self.texts.put_all(ready);
-        let hash = labels.hash();
+        let hash = labels.hash(self.seed);
         let previous = last_with(&self.last_by_hash, hash);
         note_last(&mut self.last_by_hash, hash, number + 1);
         self.rows.push_reserved(Row { numbers, previous });

@@ -9,6 +9,7 @@ ghost use Rattle.head_series.specs.Texts.{place};
 use crate::comparing::compare_numbers;
 use crate::rows::{copied_rows, is_named, last_with};
 use crate::table::SeriesTable;
+use hash_seed::HashSeed;
 use series_references::copied;
 use std::alloc::AllocError;
 use std::cmp::Ordering;
@@ -28,6 +29,11 @@ impl SeriesTable {
         self.rows.len()
     }
 
+    /// Returns the seed of the table's hashes.
+    pub fn seed(&self) -> HashSeed {
+        self.seed
+    }
+
     /// Returns the slot of the series that a reference was last bound to, or `None` if it was never bound.
     pub fn find(&self, reference: u64) -> Option<Slot>
         ensures slot { result ≡ slot_at self.now reference }
@@ -44,7 +50,8 @@ impl SeriesTable {
         ensures slot { result ≡ place (same_labels labels.now) self.now.series }
         ensures within { IfSome result (λ slot. slot < length self.now.series) }
     {
-        let mut next = last_with(&self.last_by_hash, labels.hash());
+        let seed = self.seed;
+        let mut next = last_with(&self.last_by_hash, labels.hash(seed));
         while next != 0 {
             let slot = next - 1;
             let row = &self.rows[slot as usize];
@@ -53,6 +60,8 @@ impl SeriesTable {
             }
             next = row.previous;
         }
+        // the proof of the loop speaks of the seed
+        let _seed = seed;
         None
     }
 
@@ -92,7 +101,12 @@ impl SeriesTable {
         ensures { IfOk result (λ labels. labels ≡ labels_at self.now slot) }
     {
         let alloc = *self.rows.allocator();
-        let mut labels = LabelSet::with_room(alloc, self.pairs(slot), self.texts_len(slot))?;
+        let mut labels = LabelSet::with_room(
+            alloc,
+            self.seed,
+            self.pairs(slot),
+            self.texts_len(slot),
+        )?;
         for i in 0..self.pairs(slot) {
             let (name, value) = self.pair(slot, i);
             match labels.push(name, value) {
@@ -152,6 +166,7 @@ impl SeriesTable {
             texts: self.texts.copy()?,
             rows: copied_rows(alloc, &self.rows)?,
             references: self.references.copy()?,
+            seed: self.seed,
             last_by_hash: copied(&self.last_by_hash)?,
             greatest: self.greatest,
             most: self.most,

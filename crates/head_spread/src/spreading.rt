@@ -11,6 +11,7 @@ ghost use Rattle.head_resolver.specs.Changes.{slot_before, AreBelow};
 ghost use Rattle.head_spread.specs.Records.{records_of};
 ghost use Rattle.head_spread.specs.Windows.{IsFresh};
 
+use hash_seed::HashSeed;
 use head_column::Item;
 use head_core::{Changes, Counts, Resolver};
 use head_crew::{Gate, Job};
@@ -35,6 +36,7 @@ impl Spreading {
     // Returns what no records make, in the memory of spare lists, if there are any.
     fn new(
         alloc: Global,
+        seed: HashSeed,
         seats: &Seats<'_>,
         spare: Option<Spare<Item>>,
     ) -> Result<Spreading, AllocError>
@@ -47,7 +49,7 @@ impl Spreading {
         Ok(Spreading {
             spread,
             counts: Counts::new(),
-            room: Room::new(alloc),
+            room: Room::new(alloc, seed),
         })
     }
 
@@ -237,7 +239,7 @@ pub(crate) fn new_job<'t>(
         seats,
         place,
         pages,
-        made: Spreading::new(alloc, seats, spare)?,
+        made: Spreading::new(alloc, resolver.table().seed(), seats, spare)?,
     })
 }
 

@@ -41,6 +41,8 @@ mod damaged;
 #[cfg(test)]
 mod deals;
 #[cfg(test)]
+mod deletions;
+#[cfg(test)]
 mod device;
 #[cfg(test)]
 mod expired_rows;

@@ -3,6 +3,7 @@
 ghost use Rattle.std.specs.Prelude.{◌≡◌, ◌/◌, ◌<◌, ◌||◌, ℕ, false, length, nat_eq, OnOk};
 ghost use Rattle.log_references.specs.ReferenceSets.{has, is_set, is_set_in};
 
+use hash_seed::HashSeed;
 use indexmap::IndexSet;
 use std::alloc::{AllocError, Global};
 use std::marker::Model;
@@ -14,7 +15,7 @@ const LOW_END: u64 = 4_194_304;
 #[derive(Debug)]
 pub(crate) struct ReferenceSet {
     low: Vec<u64>,
-    high: IndexSet<u64>,
+    high: IndexSet<u64, HashSeed>,
 }
 
 // Written out, so that a function that drops one has a call in its proof, and not a copy of this body.
@@ -87,12 +88,12 @@ fn insert_low(words: &mut Vec<u64>, reference: u64) -> Result<(), AllocError>
 
 impl ReferenceSet {
     /// Makes the set of no references.
-    pub(crate) fn new(alloc: Global) -> ReferenceSet
+    pub(crate) fn new(alloc: Global, seed: HashSeed) -> ReferenceSet
         ensures { (r : ℕ) → has result r ≡ false }
     {
         ReferenceSet {
             low: Vec::new(alloc),
-            high: IndexSet::new(alloc),
+            high: IndexSet::with_hasher(alloc, seed),
         }
     }
 

@@ -10,6 +10,7 @@ ghost use Rattle.log_references.specs.Keeping.{note_of, notes_of, noted_with, no
 ghost use Rattle.log_references.specs.Unbound.{AreReferencesOf, IsUnboundIn, series_references, sample_references};
 
 use crate::reference_set::ReferenceSet;
+use hash_seed::HashSeed;
 use indexmap::IndexMap;
 use std::alloc::{AllocError, Global};
 use std::marker::Model;
@@ -35,7 +36,7 @@ pub struct Unbound {
 pub struct References {
     bound: ReferenceSet,
     // the references that were named before they were bound, in the order of first sight, with the place of the record of that sight
-    noted: IndexMap<u64, Place>,
+    noted: IndexMap<u64, Place, HashSeed>,
 }
 
 // Written out, so that a function that drops one has a call in its proof, and not a copy of this body.
@@ -68,7 +69,11 @@ fn bind(bound: &mut ReferenceSet, series: &[SeriesEntry]) -> Result<(), AllocErr
 }
 
 // Notes a reference with a place, unless it is noted.
-fn note(noted: &mut IndexMap<u64, Place>, reference: u64, place: Place) -> Result<(), AllocError>
+fn note(
+    noted: &mut IndexMap<u64, Place, HashSeed>,
+    reference: u64,
+    place: Place,
+) -> Result<(), AllocError>
     ensures { OnOk result (notes_of noted.new.entries ≡ noted_with (notes_of noted.old.entries) (record { reference = reference; place = place })) }
 {
     if noted.contains_key(&reference) {
@@ -81,7 +86,7 @@ fn note(noted: &mut IndexMap<u64, Place>, reference: u64, place: Place) -> Resul
 // Notes the references of samples that are not bound, with the place of their record, unless they are noted.
 fn note_all(
     bound: &ReferenceSet,
-    noted: &mut IndexMap<u64, Place>,
+    noted: &mut IndexMap<u64, Place, HashSeed>,
     place: Place,
     samples: &[SampleEntry],
 ) -> Result<(), AllocError>
@@ -96,7 +101,7 @@ fn note_all(
 }
 
 // Returns how many references are noted and not bound.
-fn count_missing(bound: &ReferenceSet, noted: &IndexMap<u64, Place>) -> usize
+fn count_missing(bound: &ReferenceSet, noted: &IndexMap<u64, Place, HashSeed>) -> usize
     ensures { result ≡ count_by (λ e. not (has bound.now e.0)) noted.now.entries }
 {
     noted
@@ -106,7 +111,7 @@ fn count_missing(bound: &ReferenceSet, noted: &IndexMap<u64, Place>) -> usize
 }
 
 // Returns the index of the first reference that is noted and not bound.
-fn place_missing(bound: &ReferenceSet, noted: &IndexMap<u64, Place>) -> Option<usize>
+fn place_missing(bound: &ReferenceSet, noted: &IndexMap<u64, Place, HashSeed>) -> Option<usize>
     ensures { result ≡ position (λ e. not (has bound.now e.0)) noted.now.entries }
 {
     noted
@@ -115,7 +120,7 @@ fn place_missing(bound: &ReferenceSet, noted: &IndexMap<u64, Place>) -> Option<u
 }
 
 // Returns the reference that is noted at an index, with its place.
-fn note_at(noted: &IndexMap<u64, Place>, at: usize) -> Option<UnboundReference>
+fn note_at(noted: &IndexMap<u64, Place, HashSeed>, at: usize) -> Option<UnboundReference>
     ensures { result ≡ option_map note_of (slice_get noted.now.entries at) }
 {
     match noted.get_index(at) {
@@ -128,7 +133,10 @@ fn note_at(noted: &IndexMap<u64, Place>, at: usize) -> Option<UnboundReference>
 }
 
 // Returns the first reference that is noted and not bound, with its place.
-fn first_missing(bound: &ReferenceSet, noted: &IndexMap<u64, Place>) -> Option<UnboundReference>
+fn first_missing(
+    bound: &ReferenceSet,
+    noted: &IndexMap<u64, Place, HashSeed>,
+) -> Option<UnboundReference>
     ensures { result ≡ option_map note_of (find (λ e. not (has bound.now e.0)) noted.now.entries) }
 {
     match place_missing(bound, noted) {
@@ -138,13 +146,13 @@ fn first_missing(bound: &ReferenceSet, noted: &IndexMap<u64, Place>) -> Option<U
 }
 
 impl References {
-    /// Makes the references of no records.
-    pub fn new(alloc: Global) -> References
+    /// Makes the references of no records, with hashes by a seed.
+    pub fn new(alloc: Global, seed: HashSeed) -> References
         ensures { AreReferencesOf [] result }
     {
         References {
-            bound: ReferenceSet::new(alloc),
-            noted: IndexMap::new(alloc),
+            bound: ReferenceSet::new(alloc, seed),
+            noted: IndexMap::with_hasher(alloc, seed),
         }
     }
 

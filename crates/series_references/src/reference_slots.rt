@@ -5,6 +5,7 @@ ghost use Rattle.series_references.specs.ReferenceSlots.{high_one, low_end, slot
 ghost use Rattle.series_references.specs.Slots.{IsWith};
 
 use crate::maps::copied;
+use hash_seed::HashSeed;
 use indexmap::IndexMap;
 use std::alloc::{AllocError, Global};
 use std::marker::Model;
@@ -16,7 +17,7 @@ pub const LOW_END: u64 = 4_194_304;
 #[derive(Debug)]
 pub(crate) struct ReferenceSlots {
     low: Vec<u32>,
-    high: IndexMap<u64, u32>,
+    high: IndexMap<u64, u32, HashSeed>,
 }
 
 // Written out so that the proof of a function that drops these has one call, and not a copy of this.
@@ -43,12 +44,12 @@ impl Model for ReferenceSlots {
 
 impl ReferenceSlots {
     // Returns the slots of no references.
-    pub(crate) fn new(alloc: Global) -> ReferenceSlots
+    pub(crate) fn new(alloc: Global, seed: HashSeed) -> ReferenceSlots
         ensures { (r : ℕ) → slot_of result r ≡ None }
     {
         ReferenceSlots {
             low: Vec::new(alloc),
-            high: IndexMap::new(alloc),
+            high: IndexMap::with_hasher(alloc, seed),
         }
     }
 

@@ -7,6 +7,7 @@ ghost use Rattle.series_references.specs.Slots.{IsWith, IsLeast};
 use crate::candidates::Candidates;
 use crate::heap::Heap;
 use crate::reference_slots::ReferenceSlots;
+use hash_seed::HashSeed;
 use std::alloc::{AllocError, Global};
 use std::marker::Model;
 
@@ -43,13 +44,13 @@ impl Model for References {
 }
 
 impl References {
-    /// Returns the references of no series. Allocates nothing.
-    pub fn new(alloc: Global) -> References
+    /// Returns the references of no series, which are hashed by the seed. Allocates nothing.
+    pub fn new(alloc: Global, seed: HashSeed) -> References
         ensures slots { (r : ℕ) → slot_of result.slots r ≡ None }
         ensures series { result.series ≡ 0 }
     {
         References {
-            slots: ReferenceSlots::new(alloc),
+            slots: ReferenceSlots::new(alloc, seed),
             candidates: Vec::new(alloc),
         }
     }

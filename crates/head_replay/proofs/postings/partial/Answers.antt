@@ -12,7 +12,7 @@ use Rattle.head_replay.proofs.Partial.{below_number, next_slot, none_before}
 use Rattle.head_replay.proofs.postings.partial.Goals as goal
 
 pub loop-number-init : goal.loop-number-init
-loop-number-init c = (mod-eq_of_lt c.requires.one, subst (λ (sets : List (ℕ × Labels)). IsPostingsOf sets c.new-postings.result) (sym (none_before c.args.workers c.args.worker c.args.table.now.series c.requires.one)) c.new-postings.ensures)
+loop-number-init c = (mod-eq_of_lt c.requires.one, subst (λ (sets : List (ℕ × Labels)). IsPostingsOf sets c.with_seed-postings.result) (sym (none_before c.args.workers c.args.worker c.args.table.now.series c.requires.one)) c.with_seed-postings.ensures)
 
 pub add-requires : goal.add-requires
 add-requires c = subst (λ (n : ℕ). AreBelow n c.loop-number.postings.all) (sym c.new-slot.ensures) (below_number c.args.workers c.args.worker (c.args.worker + 1) c.loop-number.number c.args.table.now.series c.loop-number.postings c.loop-number.invariant.1)

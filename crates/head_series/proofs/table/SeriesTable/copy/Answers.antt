@@ -12,7 +12,7 @@ pub invariant_of-result : goal.invariant_of-result
 invariant_of-result c =
     let rows = c.self.inside.rows.items in
     let copies = c.in_ok-copied_rows.field-0.items in
-    IsSound-alike c.self.inside.texts c.in_ok-copy.field-0 c.self.inside.most (map (λ (r : Row). r.numbers.items) rows) (map (λ (r : Row). r.numbers.items) copies) (map (λ (r : Row). r.previous) rows) (map (λ (r : Row). r.previous) copies)
+    IsSound-alike c.self.inside.seed c.self.inside.texts c.in_ok-copy.field-0 c.self.inside.most (map (λ (r : Row). r.numbers.items) rows) (map (λ (r : Row). r.numbers.items) copies) (map (λ (r : Row). r.previous) rows) (map (λ (r : Row). r.previous) copies)
     c.self.inside.last_by_hash.entries c.in_ok-copied.field-0.entries c.self.inside.references.series c.in_ok-copy-2.field-0.series c.self.invariant
     c.in_ok-copy.ensures.texts c.in_ok-copy.ensures.most (c.in_ok-copied_rows.ensures.numbers ∙ ap (map (λ (r : Row). r.numbers.items)) c.deref.ensures.value) (c.in_ok-copied_rows.ensures.befores ∙ ap (map (λ (r : Row). r.previous)) c.deref.ensures.value)
     c.in_ok-copied.ensures c.in_ok-copy-2.ensures.series

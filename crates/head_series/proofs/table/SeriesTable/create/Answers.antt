@@ -14,7 +14,7 @@ pub invariant_of-self-2 : goal.invariant_of-self-2
 invariant_of-self-2 c =
     let row : Row = record { numbers = c.in-Ok.numbers; previous = c.last_with-previous.result } in
     let seen = ap (λ t. t.series) c.self.view_is in
-    let made = created c.self.inside.texts c.numbers.new.self (texts_of c.args.labels.now) c.self.inside.most c.self.inside.rows.items c.push_reserved.new.self.items row
+    let made = created c.self.inside.seed c.self.inside.texts c.numbers.new.self (texts_of c.args.labels.now) c.self.inside.most c.self.inside.rows.items c.push_reserved.new.self.items row
     c.self.inside.last_by_hash.entries c.reserve-2.new.self.entries c.note_last.new.last_by_hash.entries c.self.inside.references.series c.push.new.self.series
     c.args.labels.now c.hash-hash.result c.len-slot.result
     c.self.invariant c.in-Ok.ensures.texts c.in-Ok.ensures.most c.in-Ok.ensures.within c.in-Ok.ensures.numbers
@@ -28,7 +28,7 @@ pub returns-clause-series : goal.returns-clause-series
 returns-clause-series c =
     let row : Row = record { numbers = c.in-Ok.numbers; previous = c.last_with-previous.result } in
     let seen = ap (λ t. t.series) c.self.view_is in
-    let made = created c.self.inside.texts c.numbers.new.self (texts_of c.args.labels.now) c.self.inside.most c.self.inside.rows.items c.push_reserved.new.self.items row
+    let made = created c.self.inside.seed c.self.inside.texts c.numbers.new.self (texts_of c.args.labels.now) c.self.inside.most c.self.inside.rows.items c.push_reserved.new.self.items row
     c.self.inside.last_by_hash.entries c.reserve-2.new.self.entries c.note_last.new.last_by_hash.entries c.self.inside.references.series c.push.new.self.series
     c.args.labels.now c.hash-hash.result c.len-slot.result
     c.self.invariant c.in-Ok.ensures.texts c.in-Ok.ensures.most c.in-Ok.ensures.within c.in-Ok.ensures.numbers

@@ -21,7 +21,7 @@ invariant_of-self c =
     let below = (room_new c.args.self.now b c.requires.room c.requires.new).0 in
     let rows : length (map (λ (r : Row). r.numbers.items) c.self.inside.rows.items) ≡ length c.self.inside.rows.items = (simp length-map) in
     let counted : c.next_slot-number.result ≡ length c.self.inside.rows.items = c.next_slot-number.ensures ∙ c.self.invariant.counted ∙ rows in
-    let made = created c.self.inside.texts c.put_all-numbers.new.self (texts_of c.args.labels.now) c.self.inside.most c.self.inside.rows.items c.push_reserved.new.self.items row
+    let made = created c.self.inside.seed c.self.inside.texts c.put_all-numbers.new.self (texts_of c.args.labels.now) c.self.inside.most c.self.inside.rows.items c.push_reserved.new.self.items row
     c.self.inside.last_by_hash.entries c.self.inside.last_by_hash.entries c.note_last.new.last_by_hash.entries c.self.inside.references.series c.push.new.self.series
     c.args.labels.now c.hash-hash.result c.next_slot-number.result
     c.self.invariant (c.put_all-numbers.ensures.texts ∙ ap (λ ls. with_texts c.self.inside.texts.texts (texts_of ls)) c.requires.ready) c.put_all-numbers.ensures.most c.put_all-numbers.ensures.within (c.put_all-numbers.ensures.numbers ∙ c.requires.ready)
@@ -40,7 +40,7 @@ returns-clause-series c =
     let below = (room_new c.args.self.now b c.requires.room c.requires.new).0 in
     let rows : length (map (λ (r : Row). r.numbers.items) c.self.inside.rows.items) ≡ length c.self.inside.rows.items = (simp length-map) in
     let counted : c.next_slot-number.result ≡ length c.self.inside.rows.items = c.next_slot-number.ensures ∙ c.self.invariant.counted ∙ rows in
-    let made = created c.self.inside.texts c.put_all-numbers.new.self (texts_of c.args.labels.now) c.self.inside.most c.self.inside.rows.items c.push_reserved.new.self.items row
+    let made = created c.self.inside.seed c.self.inside.texts c.put_all-numbers.new.self (texts_of c.args.labels.now) c.self.inside.most c.self.inside.rows.items c.push_reserved.new.self.items row
     c.self.inside.last_by_hash.entries c.self.inside.last_by_hash.entries c.note_last.new.last_by_hash.entries c.self.inside.references.series c.push.new.self.series
     c.args.labels.now c.hash-hash.result c.next_slot-number.result
     c.self.invariant (c.put_all-numbers.ensures.texts ∙ ap (λ ls. with_texts c.self.inside.texts.texts (texts_of ls)) c.requires.ready) c.put_all-numbers.ensures.most c.put_all-numbers.ensures.within (c.put_all-numbers.ensures.numbers ∙ c.requires.ready)

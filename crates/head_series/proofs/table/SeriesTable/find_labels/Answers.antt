@@ -16,7 +16,7 @@ pub is_named-requires : goal.is_named-requires
 is_named-requires c =
     let v = ap (λ t. t.series) c.self.view_is in
     let e : c.loop-next.next ≡ (c.loop-next.next - 1) + 1 = omega (arith, c.loop-next-test.true) in
-    let w = sought_within c.args.self.now.series c.args.labels.now c.loop-next.next (c.loop-next.next - 1) e c.loop-next.invariant in
+    let w = sought_within c.self.inside.seed c.args.self.now.series c.args.labels.now c.loop-next.next (c.loop-next.next - 1) e c.loop-next.invariant in
     subst (AreWithin (length c.self.inside.texts.texts)) (sym c.deref.ensures.value)
     (all_within_at (length c.self.inside.texts.texts) (map (λ (r : Row). r.numbers.items) c.self.inside.rows.items) (c.loop-next.next - 1) c.index-row.result.now.numbers.items c.self.invariant.within
     (row_numbers c.self.inside.rows.items (λ (r : Row). r.numbers.items) c.self.inside.texts.texts c.args.self.now.series (c.loop-next.next - 1) c.index-row.result.now v w c.index-row.ensures))
@@ -25,7 +25,7 @@ pub returns-then-is_named-clause-slot : goal.returns-then-is_named-clause-slot
 returns-then-is_named-clause-slot c =
     let v = ap (λ t. t.series) c.self.view_is in
     let e : c.loop-next.next ≡ (c.loop-next.next - 1) + 1 = omega (arith, c.loop-next-test.true) in
-    let w = sought_within c.args.self.now.series c.args.labels.now c.loop-next.next (c.loop-next.next - 1) e c.loop-next.invariant in
+    let w = sought_within c.self.inside.seed c.args.self.now.series c.args.labels.now c.loop-next.next (c.loop-next.next - 1) e c.loop-next.invariant in
     let is : c.args.labels.now ≡ labels_in c.self.inside.texts.texts c.deref.result.now = c.is_named.ensures.yes c.if-is_named.true in
     ap Some c.new.ensures
     ∙ place_at same_labels labels_same c.args.labels.now c.args.self.now.series (c.loop-next.next - 1) (subst (AreDistinct same_labels) v c.self.invariant.distinct)
@@ -36,30 +36,30 @@ pub loop-next-smaller : goal.loop-next-smaller
 loop-next-smaller c =
     let v = ap (λ t. t.series) c.self.view_is in
     let e : c.loop-next.next ≡ (c.loop-next.next - 1) + 1 = omega (arith, c.loop-next-test.true) in
-    let w = sought_within c.args.self.now.series c.args.labels.now c.loop-next.next (c.loop-next.next - 1) e c.loop-next.invariant in
+    let w = sought_within c.self.inside.seed c.args.self.now.series c.args.labels.now c.loop-next.next (c.loop-next.next - 1) e c.loop-next.invariant in
     let b = row_before c.self.inside.rows.items (λ (r : Row). r.numbers.items) (λ (r : Row). r.previous) c.self.inside.texts.texts c.args.self.now.series (c.loop-next.next - 1) c.index-row.result.now v w c.index-row.ensures in
-    let k = sought_less c.args.self.now.series c.args.labels.now (λ h. or_zero (lookup (nat_eq h) c.self.inside.last_by_hash.entries)) (map (λ (r : Row). r.previous) c.self.inside.rows.items) c.loop-next.next (c.loop-next.next - 1) (subst (λ ss. IsChained (map labels_hash ss) (λ h. or_zero (lookup (nat_eq h) c.self.inside.last_by_hash.entries)) (map (λ (r : Row). r.previous) c.self.inside.rows.items)) v c.self.invariant.chained) e c.loop-next.invariant in
+    let k = sought_less c.self.inside.seed c.args.self.now.series c.args.labels.now (λ h. or_zero (lookup (nat_eq h) c.self.inside.last_by_hash.entries)) (map (λ (r : Row). r.previous) c.self.inside.rows.items) c.loop-next.next (c.loop-next.next - 1) (subst (λ ss. IsChained (map (labels_hash c.self.inside.seed) ss) (λ h. or_zero (lookup (nat_eq h) c.self.inside.last_by_hash.entries)) (map (λ (r : Row). r.previous) c.self.inside.rows.items)) v c.self.invariant.chained) e c.loop-next.invariant in
     omega (arith, b, k)
 
 pub loop-next-preserved : goal.loop-next-preserved
 loop-next-preserved c =
     let v = ap (λ t. t.series) c.self.view_is in
     let e : c.loop-next.next ≡ (c.loop-next.next - 1) + 1 = omega (arith, c.loop-next-test.true) in
-    let w = sought_within c.args.self.now.series c.args.labels.now c.loop-next.next (c.loop-next.next - 1) e c.loop-next.invariant in
+    let w = sought_within c.self.inside.seed c.args.self.now.series c.args.labels.now c.loop-next.next (c.loop-next.next - 1) e c.loop-next.invariant in
     let b = row_before c.self.inside.rows.items (λ (r : Row). r.numbers.items) (λ (r : Row). r.previous) c.self.inside.texts.texts c.args.self.now.series (c.loop-next.next - 1) c.index-row.result.now v w c.index-row.ensures in
     let at = row_series c.self.inside.rows.items (λ (r : Row). r.numbers.items) c.self.inside.texts.texts c.args.self.now.series (c.loop-next.next - 1) c.index-row.result.now v w c.index-row.ensures in
-    subst (IsSought c.args.self.now.series c.args.labels.now) b
-    (sought_next c.args.self.now.series c.args.labels.now (λ h. or_zero (lookup (nat_eq h) c.self.inside.last_by_hash.entries)) (map (λ (r : Row). r.previous) c.self.inside.rows.items) c.loop-next.next (c.loop-next.next - 1) (subst (λ ss. IsChained (map labels_hash ss) (λ h. or_zero (lookup (nat_eq h) c.self.inside.last_by_hash.entries)) (map (λ (r : Row). r.previous) c.self.inside.rows.items)) v c.self.invariant.chained) e
+    subst (IsSought c.self.inside.seed c.args.self.now.series c.args.labels.now) b
+    (sought_next c.self.inside.seed c.args.self.now.series c.args.labels.now (λ h. or_zero (lookup (nat_eq h) c.self.inside.last_by_hash.entries)) (map (λ (r : Row). r.previous) c.self.inside.rows.items) c.loop-next.next (c.loop-next.next - 1) (subst (λ ss. IsChained (map (labels_hash c.self.inside.seed) ss) (λ h. or_zero (lookup (nat_eq h) c.self.inside.last_by_hash.entries)) (map (λ (r : Row). r.previous) c.self.inside.rows.items)) v c.self.invariant.chained) e
     (λ g. c.is_named.ensures.no c.if-is_named.false (let m : Some c.args.labels.now ≡ Some (labels_in c.self.inside.texts.texts c.index-row.result.now.numbers.items) = sym g ∙ at in
     (let n : c.args.labels.now ≡ labels_in c.self.inside.texts.texts c.index-row.result.now.numbers.items = cc in n ∙ ap (labels_in c.self.inside.texts.texts) (sym c.deref.ensures.value))))
     c.loop-next.invariant)
 
 pub returns-clause-slot : goal.returns-clause-slot
-returns-clause-slot c = sought_none c.args.self.now.series c.args.labels.now c.loop-next.next c.loop-next-test.false c.loop-next.invariant
+returns-clause-slot c = sought_none c.self.inside.seed c.args.self.now.series c.args.labels.now c.loop-next.next c.loop-next-test.false c.loop-next.invariant
 
 pub returns-then-is_named-clause-within : goal.returns-then-is_named-clause-within
 returns-then-is_named-clause-within c =
     let e : c.loop-next.next ≡ (c.loop-next.next - 1) + 1 = omega (arith, c.loop-next-test.true) in
-    let w = sought_within c.args.self.now.series c.args.labels.now c.loop-next.next (c.loop-next.next - 1) e c.loop-next.invariant in
+    let w = sought_within c.self.inside.seed c.args.self.now.series c.args.labels.now c.loop-next.next (c.loop-next.next - 1) e c.loop-next.invariant in
     let at = c.new.ensures in
     omega (arith, w, at)
