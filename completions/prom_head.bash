@@ -8,16 +8,16 @@ _prom_head() {
     case ${COMP_WORDS[1]} in
         inspect) options='-h --json --help' ;;
         unpack) options='-h --out --through-damage --help' ;;
-        replay) options='-h --workers --round-pages --min-valid --help' ;;
+        replay) options='-h --workers --round-pages --min-valid --min-valid-of --help' ;;
         records) options='-h --help' ;;
-        series) options='-h --pair --workers --round-pages --min-valid --help' ;;
-        analyze) options='-h --most --workers --round-pages --min-valid --help' ;;
-        dump) options='-h --pair --from --to --floats --hidden --workers --round-pages --min-valid --help' ;;
-        ranges) options='-h --workers --round-pages --min-valid --help' ;;
-        cut) options='-h --hour --ulid --out --workers --round-pages --min-valid --help' ;;
+        series) options='-h --pair --workers --round-pages --min-valid --min-valid-of --help' ;;
+        analyze) options='-h --most --workers --round-pages --min-valid --min-valid-of --help' ;;
+        dump) options='-h --pair --from --to --floats --hidden --workers --round-pages --min-valid --min-valid-of --help' ;;
+        ranges) options='-h --workers --round-pages --min-valid --min-valid-of --help' ;;
+        cut) options='-h --hour --ulid --out --workers --round-pages --min-valid --min-valid-of --help' ;;
         block) options='-h --help' ;;
-        append) options='-h --rows --floats --workers --round-pages --min-valid --help' ;;
-        checkpoint) options='-h --min-valid --help' ;;
+        append) options='-h --rows --floats --workers --round-pages --min-valid --min-valid-of --help' ;;
+        checkpoint) options='-h --min-valid --min-valid-of --keep-skipped --help' ;;
         help) options='inspect unpack replay records series analyze dump ranges cut block append checkpoint' ;;
     esac
     if [[ $word == -* || ${COMP_WORDS[1]} == help ]]; then

@@ -2,7 +2,7 @@
 
 ghost use Rattle.std.specs.Prelude.{◌≡◌, ◌≤ℤ◌, ◌++◌, ℕ, ℤ, List, Option, Some};
 ghost use Rattle.wal_record.specs.Validity.{least_time};
-ghost use Rattle.wal_log.specs.Checkpoints.{IsCheckpointOf};
+ghost use Rattle.wal_log.specs.Checkpoints.{IsCheckpointOf, IsWholeCheckpointOf};
 ghost use Rattle.wal_log.specs.Inputs.{Files};
 ghost use Rattle.wal_log.specs.declared.input.Checkpoint.{Checkpoint as LogCheckpoint};
 ghost use Rattle.wal_log.specs.declared.input.Segment.{Segment as LogSegment};
@@ -20,8 +20,8 @@ ghost use Rattle.block_cut.specs.Logs.{IsBlockOfLog};
 ghost use Rattle.hour_rows.specs.Rows.{rows_of};
 
 use block_cut::one_block;
-use head_core::{checkpoint, one_content};
-use wal_log::{checkpoint_reads, one_reading};
+use head_core::{checkpoint, one_content, same_entries};
+use wal_log::{checkpoint_reads, one_reading, whole_checkpoint_reads, whole_records};
 use wal_record::valid_records;
 
 /// For every checkpoint, list of segments and number of workers, where no memory and no thread is refused, the head that `replay` gives and
@@ -68,4 +68,20 @@ pub fn checkpoint_equivalence()
     // laws that the proof uses
     checkpoint_reads();
     checkpoint();
+}
+
+/// A checkpoint made by `make_whole_checkpoint`, with the segments after it, replays to the same head, too.
+///
+/// It agrees with the whole log as `checkpoint_equivalence` says.
+pub fn whole_checkpoint_equivalence()
+    ensures { (pages : ℕ) (n m : ℤ) → n ≤ℤ m → (old : Option LogCheckpoint) (first others : List LogSegment) (new : LogCheckpoint) (damage other : Option LogDamage) (short whole : Content) →
+        IsWholeCheckpointOf pages n (record { checkpoint = old; segments = first }) new →
+        IsReplayed (record { checkpoint = Some new; segments = others }) m damage short →
+        IsReplayed (record { checkpoint = old; segments = first ++ others }) m other whole →
+        (damage ≡ other) × AreAlike short (record whole { counts = short.counts }) × HaveFates short.counts whole.counts }
+{
+    // laws that the proof uses
+    whole_checkpoint_reads();
+    whole_records();
+    same_entries();
 }

@@ -6,7 +6,7 @@ use block_commands::{BlockRequest, CutRequest};
 use head_replay::Options;
 use live_commands::{AppendRequest, CheckpointRequest};
 use prom_commands::Request;
-use prom_line::{Asked, parse};
+use prom_line::{Asked, CommandLine, parse};
 use prom_store::{AnalyzeRequest, DumpRequest, Fault, UnpackRequest};
 use std::alloc::{AllocError, Global};
 use std::process::Abort;
@@ -38,7 +38,20 @@ fn assert_asked<R: Abort + AllocGlobal>(
     line: &str,
     wanted: Asked<'_>,
 ) -> Result<(), AllocError> {
+    assert_line(rt, line, wanted, None)
+}
+
+fn assert_line<R: Abort + AllocGlobal>(
+    rt: &R,
+    line: &str,
+    asked: Asked<'_>,
+    min_valid_of: Option<&str>,
+) -> Result<(), AllocError> {
     let words = words(rt.alloc(), line)?;
+    let wanted = CommandLine {
+        asked,
+        min_valid_of,
+    };
     same(rt, line, parse(rt.alloc(), &words).ok(), Some(wanted));
     Ok(())
 }
@@ -141,12 +154,40 @@ fn options_of_each_command(rt: HostRuntime) -> Result<(), AllocError> {
         )?;
         assert_asked(&rt, &line, *wanted)?;
     }
-    let checkpoint = CheckpointRequest {
-        dir: "log",
-        min_valid: -5,
-    };
     let line = "prom_head checkpoint log --min-valid=-5";
-    assert_asked(&rt, line, Asked::Checkpoint(checkpoint))
+    assert_asked(&rt, line, CHECKPOINT)?;
+    let line = "prom_head checkpoint --keep-skipped log --min-valid=-5";
+    assert_asked(&rt, line, WHOLE_CHECKPOINT)
+}
+
+const CHECKPOINT: Asked<'static> = Asked::Checkpoint(CheckpointRequest {
+    dir: "log",
+    min_valid: -5,
+    keep_skipped: false,
+});
+
+const WHOLE_CHECKPOINT: Asked<'static> = Asked::Checkpoint(CheckpointRequest {
+    dir: "log",
+    min_valid: -5,
+    keep_skipped: true,
+});
+
+// The least valid time is that of a data directory: nothing is expired, until it is found.
+#[test]
+fn least_valid_times_of_each_command(rt: HostRuntime) -> Result<(), AllocError> {
+    for (line, wanted) in OF_EACH {
+        let line = format!(in rt.alloc();
+            "prom_head {line} --workers=7 --round-pages=300 --min-valid-of data"
+        )?;
+        let asked = wanted.from_least(i64::MIN);
+        assert_line(&rt, &line, asked, Some("data"))?;
+        same(&rt, &line, asked.from_least(-5), *wanted);
+    }
+    let line = "prom_head checkpoint log --min-valid-of=data";
+    let asked = CHECKPOINT.from_least(i64::MIN);
+    assert_line(&rt, line, asked, Some("data"))?;
+    same(&rt, line, asked.from_least(-5), CHECKPOINT);
+    Ok(())
 }
 
 #[test]

@@ -159,6 +159,7 @@ pub const CHECKPOINT: Case = Case {
     asked: Asked::Checkpoint(CheckpointRequest {
         dir: "log",
         min_valid: 3000,
+        keep_skipped: false,
     }),
     dir: "log",
 };

@@ -1,7 +1,7 @@
 -- Surveys of files, one after another.
 use Rattle.std.proofs.Common.{◌≡◌, ℕ, ◌+◌, ◌<◌, ◌++◌, ◌∷◌, [], List, length, map, take, get_or, refl, sym, ap, subst, ◌∙◌}
-use Rattle.std.specs.Prelude.{◌||◌, Bool, false, None, Option, Some, string_bytes}
-use Rattle.std.specs.List.{AllZip, list_any}
+use Rattle.std.specs.Prelude.{◌||◌, Bool, cond, false, None, Option, Some, string_bytes}
+use Rattle.std.specs.List.{AllZip, count_by, fold, list_any}
 use Rattle.std.specs.Option.{option_map}
 use Rattle.std.proofs.Common.{Global, String}
 use Rattle.std.proofs.lemmas.List.{append-nil, append_assoc, map-append, take_more}
@@ -16,7 +16,7 @@ use Rattle.hw_bytes.proofs.Lists.{flat_map-push}
 use Rattle.log_references.specs.Unbound.{AreReferencesOf, IsUnboundIn, ReferencesValue}
 use Rattle.log_inspection.specs.declared.files.FileSurvey.{FileSurvey}
 use Rattle.log_inspection.specs.Files.{HasSurveyed, HaveSurveyed, Surveyed, records_of}
-use Rattle.log_inspection.specs.Inspections.{AreCheckpointSurveys, ArePlannedSurveys, AreSurveysIn, IsInspectionIn, IsSurveyIn, is_wal}
+use Rattle.log_inspection.specs.Inspections.{AreCheckpointSurveys, ArePlannedSurveys, AreSurveysIn, IsInspectionIn, IsSurveyIn, is_passed_over, is_wal}
 
 -- two lists with one more item each
 AllZip_more : {A B : Type 0} (R : A → B → Type 0) (xs : List A) (ys : List B) (x : A) (y : B) → AllZip R xs ys → R x y → AllZip R (xs ++ x ∷ []) (ys ++ y ∷ [])
@@ -79,6 +79,13 @@ any_mapped : {A B : Type 0} (p : B → Bool) (h : A → B) (xs : List A) → lis
 any_mapped p h [] = refl
 any_mapped p h (x ∷ xs) = ap (λ (b : Bool). p (h x) || b) (any_mapped p h xs)
 
+-- how many names of texts pass a test
+count_mapped : {A B : Type 0} (p : B → Bool) (h : A → B) (xs : List A) → count_by p (map h xs) ≡ count_by (λ x. p (h x)) xs
+count_mapped {A} p h xs = from 0 xs where
+  from : (n : ℕ) (xs : List A) → fold (λ a y. a + cond (p y) 1 0) n (map h xs) ≡ fold (λ a x. a + cond (p (h x)) 1 0) n xs
+  from n [] = refl
+  from n (x ∷ xs) = from (n + cond (p (h x)) 1 0) xs
+
 -- the number of a name
 numbers : (named : Option Named) → option_map (λ (n : Named). n.number) named ≡ option_map (λ c. c.number) (option_map name_of named)
 numbers None = refl
@@ -88,8 +95,8 @@ numbers (Some named) = refl
 pub inspected : (view : View) (dir : List ℕ) (names : List (String Global)) (plan : DirPlan) (i : Inspection) (none kept : ReferencesValue) → view.names dir (map string_bytes names)
     → IsDirPlan (map string_bytes names) (option_map name_of plan.checkpoint) (map name_of plan.segments) → i.checkpoint ≡ option_map (λ (n : Named). n.number) plan.checkpoint
     → HaveSurveyed (ArePlannedSurveys view dir (option_map name_of plan.checkpoint) (map name_of plan.segments)) i.files.items none kept → AreReferencesOf [] none
-    → ((placed : List Placed) → AreReferencesOf placed kept → IsUnboundIn placed i.unbound) → i.has_wal ≡ list_any (λ name. is_wal (string_bytes name)) names → IsInspectionIn view dir i
-inspected view dir names plan i none kept listed planned checkpoint files empty unbound wal = record {
+    → ((placed : List Placed) → AreReferencesOf placed kept → IsUnboundIn placed i.unbound) → i.passed_over ≡ count_by (λ name. is_passed_over i.checkpoint (string_bytes name)) names → i.has_wal ≡ list_any (λ name. is_wal (string_bytes name)) names → IsInspectionIn view dir i
+inspected view dir names plan i none kept listed planned checkpoint files empty unbound passed wal = record {
   names = map string_bytes names;
   listed = listed;
   newest = option_map name_of plan.checkpoint;
@@ -100,5 +107,6 @@ inspected view dir names plan i none kept listed planned checkpoint files empty 
   read = files.are;
   files = files.each;
   unbound = unbound (records_of files.surveyed) (files.taken [] empty);
+  passed = passed ∙ sym (count_mapped (is_passed_over i.checkpoint) string_bytes names);
   wal = wal ∙ sym (any_mapped is_wal string_bytes names);
 }

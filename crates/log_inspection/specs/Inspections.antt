@@ -1,9 +1,10 @@
 -- The inspection of the log in a directory, by what is seen of it.
-use Rattle.std.specs.Prelude.{◌≡◌, ◌++◌, [], ℕ, Bool, true, false, List, None, Option, Some, bytes_eq, codes, map}
-use Rattle.std.specs.List.{AllZip, list_any}
+use Rattle.std.specs.Prelude.{◌≡◌, ◌++◌, [], ℕ, Bool, true, false, List, None, Option, Some, bytes_eq, codes, map, nat_le}
+use Rattle.std.specs.List.{AllZip, count_by, list_any}
 use Rattle.std.specs.Option.{option_map}
 use Rattle.std.specs.Path.{path_join}
 use Rattle.wal_log.specs.declared.input.Segment.{Segment}
+use Rattle.wal_log.specs.Names.{number_of}
 use Rattle.wal_log.specs.Plan.{IsDirPlan, IsPlan, NumberedName}
 use Rattle.log_references.specs.Unbound.{IsUnboundIn}
 use Rattle.prom_store.specs.Views.{View}
@@ -14,6 +15,15 @@ use Rattle.log_inspection.specs.Files.{IsFileSurvey, Surveyed, records_of}
 -- whether the name is `wal`
 abbrev pub is_wal : List ℕ → Bool
 is_wal name = bytes_eq name (codes "wal")
+
+-- whether the name is that of a segment which is not past the checkpoint
+abbrev pub is_at_most : ℕ → Option ℕ → Bool
+is_at_most checkpoint None = false
+is_at_most checkpoint (Some number) = nat_le number checkpoint
+
+abbrev pub is_passed_over : Option ℕ → List ℕ → Bool
+is_passed_over None name = false
+is_passed_over (Some checkpoint) name = is_at_most checkpoint (number_of name)
 
 -- the survey of the planned file of a directory
 abbrev pub IsSurveyIn : View → List ℕ → Bool → NumberedName → Surveyed → Type 0
@@ -57,4 +67,5 @@ pub record IsInspectionIn (view : View) (dir : List ℕ) (i : Inspection) : Type
   pub read : ArePlannedSurveys view dir newest plan surveyed
   pub files : i.files.items ≡ map (λ s. s.figures) surveyed
   pub unbound : IsUnboundIn (records_of surveyed) i.unbound
+  pub passed : i.passed_over ≡ count_by (is_passed_over i.checkpoint) names
   pub wal : i.has_wal ≡ list_any is_wal names

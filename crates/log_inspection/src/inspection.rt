@@ -1,19 +1,19 @@
 //! The survey of the log in a directory, file by file.
 
 ghost use Rattle.std.specs.Prelude.{◌≡◌, false, true, IfOk, map, string_bytes};
-ghost use Rattle.std.specs.List.{list_any};
+ghost use Rattle.std.specs.List.{count_by, list_any};
 ghost use Rattle.std.specs.Option.{option_map};
 ghost use Rattle.wal_log.specs.Plan.{named as name_of};
 ghost use Rattle.prom_store.specs.Views.{view_of};
 ghost use Rattle.log_inspection.specs.Files.{HasSurveyed, HaveSurveyed};
-ghost use Rattle.log_inspection.specs.Inspections.{AreCheckpointSurveys, AreFolderSurveys, ArePlannedSurveys, AreSurveysIn, IsInspectionIn, IsSurveyIn, is_wal};
+ghost use Rattle.log_inspection.specs.Inspections.{AreCheckpointSurveys, AreFolderSurveys, ArePlannedSurveys, AreSurveysIn, IsInspectionIn, IsSurveyIn, is_passed_over as is_passed_over_of, is_wal};
 
 use crate::files::{FileSurvey, survey_file};
 use log_references::{References, Unbound};
 use prom_commands::{names_in, plan_checkpoint, plan_log, read_planned_file};
 use prom_store::{Fault, Store, join};
 use std::alloc::Global;
-use wal_log::{DirPlan, Named};
+use wal_log::{DirPlan, Named, segment_number};
 
 /// What the files of the log in a directory hold.
 #[derive(Debug, Drop)]
@@ -24,8 +24,30 @@ pub struct Inspection {
     pub files: Vec<FileSurvey>,
     /// The references of samples that no series entry of these files binds.
     pub unbound: Unbound,
+    /// How many segments of the directory are not past the checkpoint, and so none of these files.
+    pub passed_over: u64,
     /// Whether the directory has a file or a directory named `wal`.
     pub has_wal: bool,
+}
+
+// Returns whether a name is that of a segment which is not past the checkpoint.
+fn is_passed_over(checkpoint: Option<u64>, name: &str) -> bool
+    ensures { result ≡ is_passed_over_of checkpoint name.now }
+{
+    match (checkpoint, segment_number(name)) {
+        (Some(checkpoint), Some(number)) => number <= checkpoint,
+        _ => false,
+    }
+}
+
+// Returns how many of these names are those of segments which are not past the checkpoint.
+fn passed_over(checkpoint: Option<u64>, names: &[String]) -> u64
+    ensures { result ≡ count_by (λ name. is_passed_over_of checkpoint (string_bytes name)) names.now }
+{
+    names
+        .iter()
+        .filter(|name| is_passed_over(checkpoint, name.as_str()))
+        .count() as u64
 }
 
 // Returns whether one of these names is `wal`.
@@ -125,12 +147,14 @@ pub fn inspect_log<S: Store>(alloc: Global, store: &S, dir: &str) -> Result<Insp
 {
     let names = names_in(alloc, store, dir)?;
     let plan = plan_log(alloc, &names)?;
-    let mut references = References::new(alloc);
+    let mut references = References::new(alloc, store.seed());
     let files = survey_planned(alloc, store, dir, &plan, &mut references)?;
+    let checkpoint = plan.checkpoint.map(|named| named.number);
     Ok(Inspection {
-        checkpoint: plan.checkpoint.map(|named| named.number),
+        checkpoint,
         files,
         unbound: references.unbound(),
+        passed_over: passed_over(checkpoint, &names),
         has_wal: has_wal(&names),
     })
 }

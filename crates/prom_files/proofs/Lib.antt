@@ -10,3 +10,4 @@ pub mod Orders
 pub mod Paths
 pub mod Runs
 pub mod Safety
+pub mod Clearing

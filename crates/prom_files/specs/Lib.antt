@@ -6,3 +6,4 @@ pub mod Orders
 pub mod Segments
 pub mod Shown
 pub mod Targets
+pub mod Abandoned

@@ -1,6 +1,7 @@
 //! New segments of a log and new folders, over any store. After a crash they are whole or not there.
 #![tactic(auto)]
 
+mod abandoned;
 mod fault;
 mod file;
 mod folder;
@@ -9,6 +10,7 @@ mod names;
 mod segment;
 mod target;
 
+pub use abandoned::clear_abandoned;
 pub use fault::written;
 pub use file::write_synced;
 pub use folder::{NewFile, begin_folder, finish_folder, write_files, write_new_folder};

@@ -1,11 +1,18 @@
 //! The program, over any store.
 
+ghost use Rattle.std.specs.Prelude.{IfOk};
+ghost use Rattle.prom_store.specs.Views.{view_of};
+ghost use Rattle.prom_head.specs.Asking.{IsAskedIn};
+
 use block_commands::carry_out_block;
 use live_commands::{carry_out_append, carry_out_checkpoint};
 use prom_commands::{Answer, Progress, carry_out};
-use prom_line::{Asked, parse};
-use prom_store::{AnalyzeRequest, LineFault, Status, Store};
+use prom_files::clear_abandoned;
+use prom_line::{Asked, CommandLine, parse};
+use prom_store::{AnalyzeRequest, Fault, LineFault, Status, Store};
 use query_commands::{carry_out_analyze, carry_out_dump};
+use server_blocks::min_valid_of;
+use std::alloc::Global;
 use std::sync::Wait;
 use std::thread::Threads;
 use survey_commands::carry_out_inspect;
@@ -29,9 +36,40 @@ fn carried_out<R: AllocGlobal + Threads + Wait + Sync, S: Store, P: Progress + S
         }
         Asked::Dump(request) => carry_out_dump(rt, alloc, store, progress, request),
         Asked::OfBlocks(request) => carry_out_block(rt, alloc, store, progress, request),
-        Asked::Append(request) => carry_out_append(rt, alloc, store, progress, request),
+        Asked::Append(request) => {
+            clear_abandoned(alloc, store, request.dir);
+            carry_out_append(rt, alloc, store, progress, request)
+        }
         Asked::Checkpoint(request) => carry_out_checkpoint(alloc, store, request),
         Asked::Unpack(request) => carry_out_unpack(alloc, store, request),
+    }
+}
+
+// Returns what a command line asks for, with the least valid time that the blocks of a data directory give, if it names one.
+fn asked_in<'a, S: Store>(
+    alloc: Global,
+    store: &S,
+    line: CommandLine<'a>,
+) -> Result<Asked<'a>, Fault>
+    ensures { IfOk result (IsAskedIn (view_of (S.holds store.now)) line.entry) }
+{
+    match line.min_valid_of {
+        Some(data) => Ok(line.asked.from_least(min_valid_of(alloc, store, data)?)),
+        None => Ok(line.asked),
+    }
+}
+
+// Carries out what a command line asks for. Where no least valid time is found, nothing is.
+fn carried_out_in<R: AllocGlobal + Threads + Wait + Sync, S: Store, P: Progress + Sync>(
+    rt: &R,
+    store: &mut S,
+    progress: &P,
+    line: CommandLine<'_>,
+    bars: bool,
+) -> Answer {
+    match asked_in(rt.alloc(), store, line) {
+        Ok(asked) => carried_out(rt, store, progress, asked, bars),
+        Err(fault) => Answer::failed(rt.alloc(), fault),
     }
 }
 
@@ -46,7 +84,7 @@ pub fn run<R: AllocGlobal + Threads + Wait + Sync, S: Store, P: Progress + Sync>
 ) -> Result<Answer, LineFault> {
     let alloc = rt.alloc();
     match parse(alloc, words) {
-        Ok(asked) => Ok(carried_out(rt, store, progress, asked, bars)),
+        Ok(line) => Ok(carried_out_in(rt, store, progress, line, bars)),
         Err(error) if error.use_stderr() => Err(LineFault::from(error)),
         Err(help) => Ok(Answer::done(help.to_string(alloc)?, Status::Done)),
     }

@@ -51,15 +51,31 @@ pub(crate) fn min_valid<'a>(alloc: Global) -> Arg<'a> {
     )
 }
 
+// Returns the option that stands in the place of `--min-valid`, also where that is required.
+fn min_valid_of<'a>(alloc: Global) -> Result<Arg<'a>, AllocError> {
+    Arg::new(alloc, "min-valid-of")
+        .long("min-valid-of")
+        .value_name("DATA")
+        .help("Take the least valid time from the blocks of a data directory")
+        .conflicts_with("min-valid")
+}
+
+/// Adds the option of the least valid time to a command, and the one that stands in its place.
+pub(crate) fn with_min_valid<'a>(
+    alloc: Global,
+    command: Result<Command<'a>, AllocError>,
+    min_valid: Arg<'a>,
+) -> Result<Command<'a>, AllocError> {
+    command?.arg(min_valid)?.arg(min_valid_of(alloc)?)
+}
+
 /// Adds the options of replay to a command.
 pub(crate) fn replaying<'a>(
     alloc: Global,
     command: Result<Command<'a>, AllocError>,
 ) -> Result<Command<'a>, AllocError> {
-    command?
-        .arg(workers(alloc))?
-        .arg(round_pages(alloc))?
-        .arg(min_valid(alloc))
+    let command = command?.arg(workers(alloc))?.arg(round_pages(alloc));
+    with_min_valid(alloc, command, min_valid(alloc))
 }
 
 pub(crate) fn pair<'a>(alloc: Global) -> Arg<'a> {
@@ -130,6 +146,10 @@ pub(crate) fn new_log<'a>(alloc: Global) -> Arg<'a> {
 
 pub(crate) fn through_damage<'a>(alloc: Global) -> Arg<'a> {
     flag(alloc, "through-damage").help("Of a damaged log, write what is before the damage")
+}
+
+pub(crate) fn keep_skipped<'a>(alloc: Global) -> Arg<'a> {
+    flag(alloc, "keep-skipped").help("Copy records of types that are not read, as they are")
 }
 
 pub(crate) fn path<'a>(alloc: Global) -> Arg<'a> {

@@ -31,12 +31,24 @@ pub enum Asked<'a> {
     Unpack(UnpackRequest<'a>),
 }
 
-// Returns the options of replay. Where no least valid time is given, it is the least of all times, so that nothing is expired.
+/// A command line: what it asks for, and of which data directory the blocks give the least valid time, if it names one.
+#[derive(Clone, Copy, Debug, PartialEq, Eq)]
+pub struct CommandLine<'a> {
+    pub asked: Asked<'a>,
+    pub min_valid_of: Option<&'a str>,
+}
+
+// Returns the least valid time. Where none is given, it is the least of all times, so that nothing is expired.
+fn min_valid(of: &ArgMatches<'_>) -> i64 {
+    of.get_one("min-valid").unwrap_or(i64::MIN)
+}
+
+// Returns the options of replay.
 fn options(of: &ArgMatches<'_>) -> Option<Options> {
     Some(Options {
         workers: usize::from(of.get_one::<u8>("workers")?),
         round_pages: of.get_one::<u32>("round-pages")? as usize,
-        min_valid: of.get_one("min-valid").unwrap_or(i64::MIN),
+        min_valid: min_valid(of),
     })
 }
 
@@ -119,7 +131,8 @@ fn of_append<'a>(of: &ArgMatches<'a>) -> Option<AppendRequest<'a>> {
 fn of_checkpoint<'a>(of: &ArgMatches<'a>) -> Option<CheckpointRequest<'a>> {
     Some(CheckpointRequest {
         dir: of.get_str("dir")?,
-        min_valid: of.get_one("min-valid")?,
+        min_valid: min_valid(of),
+        keep_skipped: of.get_flag("keep-skipped"),
     })
 }
 
@@ -153,14 +166,30 @@ fn requested<'a>(matches: &ArgMatches<'a>) -> Option<Asked<'a>> {
     of_others(matches)
 }
 
-fn matched<'a>(command: &mut Command<'a>, words: &'a [String]) -> Result<Option<Asked<'a>>, Error> {
-    let matches = command.try_get_matches_from_mut(words)?;
-    Ok(requested(&matches))
+// Returns the data directory that gives the least valid time. A command that has none takes no such option.
+fn data_of<'a>(matches: &ArgMatches<'a>) -> Option<&'a str> {
+    let (_, of) = matches.subcommand()?;
+    of.get_str("min-valid-of")
 }
 
-fn parsed<'a>(command: &mut Command<'a>, words: &'a [String]) -> Result<Asked<'a>, Error> {
+fn line_of<'a>(matches: &ArgMatches<'a>) -> Option<CommandLine<'a>> {
+    Some(CommandLine {
+        asked: requested(matches)?,
+        min_valid_of: data_of(matches),
+    })
+}
+
+fn matched<'a>(
+    command: &mut Command<'a>,
+    words: &'a [String],
+) -> Result<Option<CommandLine<'a>>, Error> {
+    let matches = command.try_get_matches_from_mut(words)?;
+    Ok(line_of(&matches))
+}
+
+fn parsed<'a>(command: &mut Command<'a>, words: &'a [String]) -> Result<CommandLine<'a>, Error> {
     match matched(command, words)? {
-        Some(asked) => Ok(asked),
+        Some(line) => Ok(line),
         // not reached: clap has checked that there is a subcommand with its arguments
         None => Err(command.error(ErrorKind::MissingSubcommand, "a command is missing")?),
     }
@@ -168,7 +197,7 @@ fn parsed<'a>(command: &mut Command<'a>, words: &'a [String]) -> Result<Asked<'a
 
 /// Parses a command line, whose first word is the program's name. A request for help or for the version is an `Err` too, with the text to
 /// print.
-pub fn parse<'a>(alloc: Global, words: &'a [String]) -> Result<Asked<'a>, Error> {
+pub fn parse<'a>(alloc: Global, words: &'a [String]) -> Result<CommandLine<'a>, Error> {
     let mut command = program(alloc)?;
     parsed(&mut command, words)
 }

@@ -99,7 +99,8 @@ fn append<'a>(alloc: Global) -> Result<Command<'a>, AllocError> {
 fn checkpoint<'a>(alloc: Global) -> Result<Command<'a>, AllocError> {
     let about = "Makes a checkpoint of the log";
     let command = on_log(alloc, "checkpoint", about, texts::CHECKPOINT);
-    also(command, min_valid(alloc).required(true))
+    let command = with_min_valid(alloc, command, min_valid(alloc).required(true));
+    also(command, keep_skipped(alloc))
 }
 
 fn unpack<'a>(alloc: Global) -> Result<Command<'a>, AllocError> {

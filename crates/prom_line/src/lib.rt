@@ -4,6 +4,7 @@
 mod arguments;
 mod asked;
 mod commands;
+mod least;
 mod texts;
 
-pub use asked::{Asked, parse};
+pub use asked::{Asked, CommandLine, parse};

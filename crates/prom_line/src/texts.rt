@@ -158,6 +158,8 @@ Exit status:
 pub(crate) const CHECKPOINT: &str = "\
 Writes the folder checkpoint.NUMBER into DIR, and removes nothing. Run it while no server has
 the log open. What was not finished stays as checkpoint.NUMBER.tmp, and you may remove it.
+Without --keep-skipped, native histograms, exemplars and metadata are left out of the
+checkpoint.
 
 Example:
   prom_head checkpoint wal --min-valid 1700000000000

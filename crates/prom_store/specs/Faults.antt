@@ -1,7 +1,7 @@
 -- What a fault says.
 use Rattle.std.specs.Prelude.{◌≡◌, ℕ, ◌++◌, List, Option, None, Some, codes, string_bytes, ⊤}
 use Rattle.prom_store.specs.declared.fault.Fault.{Fault}
-use Rattle.prom_store.specs.declared.fault.Fault.TheVariants.{Damage, BadIndex, BadChunks, BadTombstones, BadMeta, CannotRead, CannotWrite, Exists, OutOfMemory}
+use Rattle.prom_store.specs.declared.fault.Fault.TheVariants.{Damage, BadIndex, BadChunks, BadTombstones, BadMeta, NotMeta, CannotRead, CannotWrite, Exists, OutOfMemory}
 use Rattle.prom_store.specs.Shown.{shown}
 
 -- the log is damaged, or bytes of a block are not what a block has there
@@ -11,6 +11,7 @@ TellsDamage (BadIndex _) = ⊤
 TellsDamage BadChunks = ⊤
 TellsDamage BadTombstones = ⊤
 TellsDamage BadMeta = ⊤
+TellsDamage (NotMeta _) = ⊤
 TellsDamage _ = ⊥
 
 -- what is at this path could not be read, or out of memory
@@ -33,6 +34,7 @@ TellsTaken _ _ = ⊥
 
 -- the text of a fault that names a path, which is one line whatever the path is
 abbrev pub path_text : Fault → Option (List ℕ)
+path_text (NotMeta path) = Some (shown (string_bytes path) ++ codes ": not a block's meta.json")
 path_text (CannotRead path reason) = Some (codes "cannot read " ++ shown (string_bytes path))
 path_text (CannotWrite path reason) = Some (codes "cannot write " ++ shown (string_bytes path))
 path_text (Exists path) = Some (codes "cannot write " ++ (shown (string_bytes path) ++ codes ": it exists already"))

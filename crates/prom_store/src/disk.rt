@@ -7,24 +7,44 @@ ghost use Rattle.prom_store.specs.Entries.{Gives};
 
 use crate::reason::Reason;
 use crate::store::{Store, StoreFault};
+use hash_seed::HashSeed;
 use std::alloc::Global;
 use std::fs::{DirEntry, File, OpenFile};
 use std::io::{ErrorKind, Read, Write};
 use std::os::unix::fs::FileExt;
+use std::random::RandomSource;
 use std::rt::Files;
 use std::thread::Threads;
 use std::{fs, io, thread};
 
-/// The file system of the host. Several files are read side by side, and a large one in parts, by threads of the runtime `rt`.
+/// The file system of the host. Several files are read side by side, and a large one in parts, by threads of the runtime `rt`. The seed of
+/// tables is of the system's random bits.
 #[derive(Drop)]
 pub struct Disk<'a, R> {
     rt: &'a R,
     host: HostRuntime,
+    seed: HashSeed,
+}
+
+// Returns a seed of the system's random bits, or the seed that all know if it gives none.
+fn random_seed(rt: &impl RandomSource) -> HashSeed {
+    let mut bytes = [0; 16];
+    match rt.fill_bytes(&mut bytes) {
+        Ok(()) => {
+            let bits = u128::from_le_bytes(bytes);
+            HashSeed::new((bits % (1 << 64)) as u64, (bits >> 64) as u64)
+        }
+        Err(_) => HashSeed::known(),
+    }
 }
 
 impl<'a> Disk<'a, HostRuntime> {
     pub fn new(rt: &'a HostRuntime) -> Disk<'a, HostRuntime> {
-        Disk { rt, host: *rt }
+        Disk {
+            rt,
+            host: *rt,
+            seed: random_seed(rt),
+        }
     }
 }
 
@@ -328,8 +348,23 @@ impl<R: Threads> Store for Disk<'_, R> {
         all_read(alloc, files)
     }
 
+    fn seed(&self) -> HashSeed {
+        self.seed
+    }
+
+    // A file that `create_new` made is locked while it is open.
+    fn is_abandoned(&self, path: &str) -> bool {
+        check_file(self.host, path).is_ok()
+            && match File::open(&self.host, path) {
+                Ok(file) => length_of(&file) == 0 && file.try_lock_shared().is_ok(),
+                Err(_) => false,
+            }
+    }
+
     fn create_new(&mut self, path: &str) -> Result<File, StoreFault> {
-        Ok(File::create_new(&self.host, path)?)
+        let file = File::create_new(&self.host, path)?;
+        let _ = file.try_lock();
+        Ok(file)
     }
 
     fn write(&mut self, writer: &mut File, bytes: &[u8]) -> Result<(), StoreFault> {

@@ -71,7 +71,7 @@ impl fmt::Display for NumberGap {
     }
 }
 
-/// What is known of a fault beyond its text, to be told behind it.
+/// What is known beyond the text of a fault or of an answer, to be told behind it.
 #[derive(Clone, Copy, Debug, PartialEq, Eq)]
 pub enum Cause {
     /// The file system refused a call.
@@ -80,6 +80,8 @@ pub enum Cause {
     Gap(NumberGap),
     /// A record of the log is compressed.
     Compressed,
+    /// A checkpoint left out this many records, since their types are not read.
+    LeftOut(u64),
 }
 
 impl fmt::Display for Cause {
@@ -89,6 +91,10 @@ impl fmt::Display for Cause {
             Cause::Gap(gap) => fmt::Display::fmt(gap, f),
             Cause::Compressed => f.write_str(
                 "`unpack` writes such a log anew, without compression",
+            ),
+            Cause::LeftOut(records) => write!(
+                f,
+                "records left out, since their types are not read: {records}; `--keep-skipped` copies them"
             ),
         }
     }
@@ -111,6 +117,8 @@ pub enum Fault {
     BadTombstones,
     /// meta.json of a block does not say what the block holds.
     BadMeta,
+    /// The file at this path is not the meta.json of a block.
+    NotMeta { path: String },
     /// The file or directory at this path cannot be read.
     CannotRead { path: String, reason: Reason },
     /// The file or directory at this path cannot be written.
@@ -190,6 +198,7 @@ impl Fault {
             Fault::BadUlid => "ulid must be 26 Crockford characters",
             // the line, and a text with a path, are written whole
             Fault::Damage(_)
+            | Fault::NotMeta { .. }
             | Fault::CannotRead { .. }
             | Fault::CannotWrite { .. }
             | Fault::Exists { .. } => "",
@@ -239,7 +248,8 @@ impl Fault {
             | Fault::BadIndex(_)
             | Fault::BadChunks
             | Fault::BadTombstones
-            | Fault::BadMeta => Status::Damaged,
+            | Fault::BadMeta
+            | Fault::NotMeta { .. } => Status::Damaged,
             Fault::CannotRead { .. }
             | Fault::CannotWrite { .. }
             | Fault::Exists { .. }
@@ -268,6 +278,7 @@ impl fmt::Display for Fault {
         match self {
             Fault::Damage(line) => write!(f, "{line}"),
             Fault::BadIndex(fault) => write!(f, "{text} {fault}"),
+            Fault::NotMeta { path } => { write!(f, "{}: not a block's meta.json", ShownPath(path)) }
             Fault::CannotRead { path, .. } => write!(f, "cannot read {}", ShownPath(path)),
             Fault::CannotWrite { path, .. } => write!(f, "cannot write {}", ShownPath(path)),
             Fault::Exists { path } => {

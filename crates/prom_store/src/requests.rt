@@ -59,6 +59,8 @@ pub struct AppendRequest<'a> {
 pub struct CheckpointRequest<'a> {
     pub dir: &'a str,
     pub min_valid: i64,
+    /// Whether records of types that are not read are copied, and not left out.
+    pub keep_skipped: bool,
 }
 
 /// A request to print what is in the log in a directory, file by file.

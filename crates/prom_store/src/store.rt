@@ -9,6 +9,7 @@ ghost use Rattle.prom_store.specs.Found.{Bytes, Found, Names};
 ghost use Rattle.prom_store.specs.declared.store.StoreFault.TheVariants.{OutOfMemory};
 
 use crate::reason::Reason;
+use hash_seed::HashSeed;
 use std::alloc::{AllocError, AllocFailed, Global};
 use std::io;
 use std::io::ErrorKind;
@@ -92,6 +93,16 @@ pub trait Store {
             }
         }
         Ok(files)
+    }
+
+    /// Returns the seed of the tables that keep what is read. Without one that nobody knows, it is the seed that all know.
+    fn seed(&self) -> HashSeed {
+        HashSeed::known()
+    }
+
+    /// Returns whether an empty file is at the path, and no writer of `create_new` has it open. Where the store can't tell, it returns `false`.
+    fn is_abandoned(&self, _path: &str) -> bool {
+        false
     }
 
     /// Creates a file. Returns an error if the path exists.

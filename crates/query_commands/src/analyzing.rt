@@ -20,7 +20,7 @@ fn analysis_of(alloc: Global, head: &Head, layout: Layout) -> Result<String, All
     let totals = totals(head)?;
     let mut labels = label_counts(alloc, head)?;
     let mut metrics = metrics(alloc, &labels)?;
-    let mut names = name_counts(alloc, &labels)?;
+    let mut names = name_counts(alloc, head.seed(), &labels)?;
     analysis_text(
         alloc,
         &totals,

@@ -1,5 +1,5 @@
 -- Which remarks hold of a file and of a log, by the remark on each.
-use Rattle.std.proofs.Common.{◌≡◌, ℕ, ◌<◌, ◌^◌, Bool, true, false, List, [], ◌∷◌, Option, Some, None, arith, inl, inr, refl, sym, ap, subst, ◌∙◌}
+use Rattle.std.proofs.Common.{◌≡◌, ℕ, zero, suc, ◌<◌, ◌^◌, Bool, true, false, List, [], ◌∷◌, Option, Some, None, arith, inl, inr, refl, sym, ap, subst, ◌∙◌}
 use Rattle.std.specs.Option.{option_map}
 use Rattle.log_references.specs.declared.references.UnboundReference.{UnboundReference}
 use Rattle.std.specs.Prelude.{◌⊎◌, ◌≢◌, ◌==◌, if◌then◌else◌, nat_lt}
@@ -12,9 +12,14 @@ use Rattle.wal_log.specs.Inputs.{following}
 use Rattle.log_inspection.specs.declared.files.FileSurvey.{FileSurvey}
 use Rattle.log_inspection.specs.declared.inspection.Inspection.{Inspection}
 use Rattle.survey_commands.specs.declared.remarks.Remark.{Remark}
-use Rattle.survey_commands.specs.declared.remarks.Remark.TheVariants.{Compressed, Damaged, Empty, NoLog, NoneBehind, SegmentsMissing, TornEnd, UnboundReferences, Zeros}
+use Rattle.survey_commands.specs.declared.remarks.Remark.TheVariants.{Compressed, Damaged, Empty, NoLog, NoneBehind, PassedOver, SegmentsMissing, TornEnd, UnboundReferences, Zeros}
 use Rattle.survey_commands.specs.Remarks.{HoldsOfFile, HoldsOfLog, file_of, first_segment}
-use Rattle.survey_commands.specs.Remarking.{damage_remark, file_remark, first_remark, log_remark, remark_by, remark_on, unbound_remark}
+use Rattle.survey_commands.specs.Remarking.{damage_remark, file_remark, first_remark, log_remark, passed_remark, remark_by, remark_on, unbound_remark}
+
+-- a number that is not 0
+eqb_positive : (n : ℕ) → (n == 0) ≡ false → 0 < n
+eqb_positive zero e = absurd (let k : true ≡ false = e in cc)
+eqb_positive (suc n) e = omega arith
 
 -- the remark in an option
 same_remark : (a b : Remark) → Some a ≡ Some b → a ≡ b
@@ -55,6 +60,7 @@ pub file_told : (f : FileSurvey) (last : Bool) (r : Remark) → HoldsOfFile f la
 file_told f last (NoLog has_wal) h = absurd h
 file_told f last (SegmentsMissing from first) h = absurd h
 file_told f last (NoneBehind next) h = absurd h
+file_told f last (PassedOver segments) h = absurd h
 file_told f last (UnboundReferences references first) h = absurd h
 file_told f last (Empty file) ((is, at, before), empty) = rw (at, before, eq-eqb f.bytes 0 empty, is) refl
 file_told f last (Zeros file) ((is, at, before), bytes, zeros) = rw (at, before, ne_eqb f.bytes 0 bytes, zeros, is) refl
@@ -104,13 +110,22 @@ unbound_holds i r is = by i.unbound.first refl is where
   by None at e = absurd (let k : None ≡ Some r = e in cc)
   by (Some first) at e = subst (HoldsOfLog i) (same_remark (UnboundReferences i.unbound.references first) r e) (refl, at)
 
--- a remark that holds of a log is that on its files, or that on its references
-pub log_told : (i : Inspection) (r : Remark) → HoldsOfLog i r → (log_remark i ≡ Some r) ⊎ (unbound_remark i.unbound ≡ Some r)
+-- the remark on segments that are not past the checkpoint holds of the log
+pub passed_holds : (i : Inspection) (r : Remark) → passed_remark i.passed_over ≡ Some r → HoldsOfLog i r
+passed_holds i r is = by (i.passed_over == 0) refl is where
+  by : (b : Bool) → (i.passed_over == 0) ≡ b → (if b then None else Some (PassedOver i.passed_over)) ≡ Some r → HoldsOfLog i r
+  by true none e = absurd (let k : None ≡ Some r = e in cc)
+  by false some e = subst (HoldsOfLog i) (same_remark (PassedOver i.passed_over) r e) (refl, eqb_positive i.passed_over some)
+
+-- a remark that holds of a log is that on its files, that on segments which are not past the checkpoint, or that on its references
+pub log_told : (i : Inspection) (r : Remark) → HoldsOfLog i r → (log_remark i ≡ Some r) ⊎ ((passed_remark i.passed_over ≡ Some r) ⊎ (unbound_remark i.unbound ≡ Some r))
 log_told i (NoLog has_wal) (none, is) = inl (ap (λ files. remark_on files i.checkpoint i.has_wal) none ∙ ap (λ (b : Bool). Some (NoLog b)) (sym is))
 log_told i (SegmentsMissing from first) (at, is, lower) =
     inl (with_first i.files.items i.checkpoint i.has_wal first at (subst (λ (n : ℕ). n < first) is lower) ∙ ap (λ (n : ℕ). Some (SegmentsMissing n first)) (sym is))
 log_told i (NoneBehind next) (some, at, is, below) =
     inl (without_first i.files.items i.checkpoint i.has_wal some at (subst (λ (n : ℕ). n < 2 ^ 64) is below) ∙ ap (λ (n : ℕ). Some (NoneBehind n)) (sym is))
+log_told i (PassedOver segments) (is, some) =
+    inr (inl (ap passed_remark (sym is) ∙ ap (λ (b : Bool). if b then None else Some (PassedOver segments)) (ne_eqb segments 0 (λ none. omega (arith, some, none)))))
 log_told i (UnboundReferences references first) (is, at) =
-    inr (ap (λ found. option_map (λ f. UnboundReferences i.unbound.references f) found) at ∙ ap (λ (n : ℕ). Some (UnboundReferences n first)) (sym is))
+    inr (inr (ap (λ found. option_map (λ f. UnboundReferences i.unbound.references f) found) at ∙ ap (λ (n : ℕ). Some (UnboundReferences n first)) (sym is)))
 log_told i other h = absurd h

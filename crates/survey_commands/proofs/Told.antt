@@ -9,8 +9,8 @@ use Rattle.survey_commands.specs.declared.remarks.Remark.{Remark}
 use Rattle.prom_store.specs.declared.fault.Status.{Status}
 use Rattle.survey_commands.specs.Statuses.{IsStatusOf}
 use Rattle.survey_commands.specs.Remarks.{Holds, HoldsBelow, HoldsOfFile}
-use Rattle.survey_commands.specs.Remarking.{AddsTo, file_remark, log_remark, unbound_remark}
-use Rattle.survey_commands.proofs.Conditions.{file_holds, file_told, log_holds, log_told, unbound_holds}
+use Rattle.survey_commands.specs.Remarking.{AddsTo, file_remark, log_remark, passed_remark, unbound_remark}
+use Rattle.survey_commands.proofs.Conditions.{file_holds, file_told, log_holds, log_told, passed_holds, unbound_holds}
 
 -- what was added, said otherwise
 pub adds_same : (a b : List Remark) (P Q : Remark → Type 0) → ((r : Remark) → P r → Q r) → ((r : Remark) → Q r → P r) → AddsTo a b P → AddsTo a b Q
@@ -65,22 +65,30 @@ all_told files n a b low high added = let same : n ≡ length files = omega (ari
 pub none_contained : (none : List Remark) (r : Remark) → none ≡ [] → Contains none r → ⊥
 none_contained none r empty (k, within, is) = omega (arith, ap length empty, within)
 
--- the remarks on a log: on the files as a whole, then on each of them, then on references
-pub told_of : (none first second all : List Remark) (i : Inspection) (remark unbound : Option Remark) (files : List FileSurvey) → none ≡ [] → remark ≡ log_remark i → files ≡ i.files.items → unbound ≡ unbound_remark i.unbound
-    → AddsTo none first (λ r. remark ≡ Some r) → AddsTo first second (HoldsBelow (length files) files) → AddsTo second all (λ r. unbound ≡ Some r) → (r : Remark) → (Contains all r → Holds i r) × (Holds i r → Contains all r)
-told_of none first second all i remark unbound files empty log are names one others last r =
-    let both = adds_both none first second (λ r. remark ≡ Some r) (HoldsBelow (length files) files) one others in
-    let three = adds_both none second all (λ r. (remark ≡ Some r) ⊎ HoldsBelow (length files) files r) (λ r. unbound ≡ Some r) both last in (
-      λ h. elim ((three r).0 h) as (λ _. Holds i r) [
+-- the remarks on a log: on the files as a whole, on segments that are not past the checkpoint, on each file, and on references
+pub told_of : (none first between second all : List Remark) (i : Inspection) (remark passed unbound : Option Remark) (files : List FileSurvey) → none ≡ [] → remark ≡ log_remark i → passed ≡ passed_remark i.passed_over → files ≡ i.files.items
+    → unbound ≡ unbound_remark i.unbound → AddsTo none first (λ r. remark ≡ Some r) → AddsTo first between (λ r. passed ≡ Some r) → AddsTo between second (HoldsBelow (length files) files) → AddsTo second all (λ r. unbound ≡ Some r)
+    → (r : Remark) → (Contains all r → Holds i r) × (Holds i r → Contains all r)
+told_of none first between second all i remark passed unbound files empty log over are names one two others last r =
+    let both = adds_both none first between (λ r. remark ≡ Some r) (λ r. passed ≡ Some r) one two in
+    let three = adds_both none between second (λ r. (remark ≡ Some r) ⊎ (passed ≡ Some r)) (HoldsBelow (length files) files) both others in
+    let four = adds_both none second all (λ r. ((remark ≡ Some r) ⊎ (passed ≡ Some r)) ⊎ HoldsBelow (length files) files r) (λ r. unbound ≡ Some r) three last in (
+      λ h. elim ((four r).0 h) as (λ _. Holds i r) [
         | inl k ↦ absurd (none_contained none r empty k)
         | inr m ↦ elim m as (λ _. Holds i r) [
-          | inl pair ↦ elim pair as (λ _. Holds i r) [ inl on ↦ inl (log_holds i r (sym log ∙ on)) | inr on ↦ inr (subst (λ (fs : List FileSurvey). HoldsBelow (length fs) fs r) are on) ]
+          | inl n ↦ elim n as (λ _. Holds i r) [
+            | inl pair ↦ elim pair as (λ _. Holds i r) [ inl on ↦ inl (log_holds i r (sym log ∙ on)) | inr on ↦ inl (passed_holds i r (sym over ∙ on)) ]
+            | inr on ↦ inr (subst (λ (fs : List FileSurvey). HoldsBelow (length fs) fs r) are on)
+          ]
           | inr on ↦ inl (unbound_holds i r (sym names ∙ on))
         ]
       ],
       λ h. elim h as (λ _. Contains all r) [
-        | inl on ↦ elim (log_told i r on) as (λ _. Contains all r) [ inl at ↦ (three r).1 (inr (inl (inl (log ∙ at)))) | inr at ↦ (three r).1 (inr (inr (names ∙ at))) ]
-        | inr on ↦ (three r).1 (inr (inl (inr (subst (λ (fs : List FileSurvey). HoldsBelow (length fs) fs r) (sym are) on))))
+        | inl on ↦ elim (log_told i r on) as (λ _. Contains all r) [
+          | inl at ↦ (four r).1 (inr (inl (inl (inl (log ∙ at)))))
+          | inr more ↦ elim more as (λ _. Contains all r) [ inl at ↦ (four r).1 (inr (inl (inl (inr (over ∙ at))))) | inr at ↦ (four r).1 (inr (inr (names ∙ at))) ]
+        ]
+        | inr on ↦ (four r).1 (inr (inl (inr (subst (λ (fs : List FileSurvey). HoldsBelow (length fs) fs r) (sym are) on))))
       ],
     )
 

@@ -9,7 +9,7 @@ use Rattle.log_references.specs.declared.references.Unbound.{Unbound as Referenc
 use Rattle.log_inspection.specs.declared.files.FileSurvey.{FileSurvey}
 use Rattle.log_inspection.specs.declared.inspection.Inspection.{Inspection}
 use Rattle.survey_commands.specs.declared.remarks.Remark.{Remark}
-use Rattle.survey_commands.specs.declared.remarks.Remark.TheVariants.{Compressed, Damaged, Empty, NoLog, NoneBehind, SegmentsMissing, TornEnd, UnboundReferences, Zeros}
+use Rattle.survey_commands.specs.declared.remarks.Remark.TheVariants.{Compressed, Damaged, Empty, NoLog, NoneBehind, PassedOver, SegmentsMissing, TornEnd, UnboundReferences, Zeros}
 use Rattle.survey_commands.specs.Remarks.{file_of, first_segment}
 
 -- the remark on damage of this kind, in a file that is the last one or not
@@ -38,6 +38,10 @@ first_remark from (Some first) = if nat_lt from first then Some (SegmentsMissing
 abbrev pub remark_on : List FileSurvey → Option ℕ → Bool → Option Remark
 remark_on [] checkpoint has_wal = Some (NoLog has_wal)
 remark_on (f ∷ more) checkpoint has_wal = first_remark (following checkpoint) (first_segment (f ∷ more))
+
+-- the remark on segments that are not past the checkpoint
+abbrev pub passed_remark : ℕ → Option Remark
+passed_remark segments = if segments == 0 then None else Some (PassedOver segments)
 
 -- the remark on references that are not bound
 abbrev pub unbound_remark : ReferencesUnbound → Option Remark

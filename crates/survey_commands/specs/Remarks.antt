@@ -8,7 +8,7 @@ use Rattle.log_inspection.specs.declared.files.FileSurvey.{FileSurvey}
 use Rattle.log_inspection.specs.declared.inspection.Inspection.{Inspection}
 use Rattle.survey_commands.specs.declared.remarks.NumberedFile.{NumberedFile}
 use Rattle.survey_commands.specs.declared.remarks.Remark.{Remark}
-use Rattle.survey_commands.specs.declared.remarks.Remark.TheVariants.{Compressed, Damaged, Empty, NoLog, NoneBehind, SegmentsMissing, TornEnd, UnboundReferences, Zeros}
+use Rattle.survey_commands.specs.declared.remarks.Remark.TheVariants.{Compressed, Damaged, Empty, NoLog, NoneBehind, PassedOver, SegmentsMissing, TornEnd, UnboundReferences, Zeros}
 
 -- the file whose survey this is
 abbrev pub file_of : FileSurvey → NumberedFile
@@ -27,6 +27,7 @@ abbrev pub HoldsOfFile : FileSurvey → Bool → Remark → Type 0
 HoldsOfFile f last (NoLog has_wal) = ⊥
 HoldsOfFile f last (SegmentsMissing from first) = ⊥
 HoldsOfFile f last (NoneBehind next) = ⊥
+HoldsOfFile f last (PassedOver segments) = ⊥
 HoldsOfFile f last (Empty file) = IsWholeBefore f last file × (f.bytes ≡ 0)
 HoldsOfFile f last (Zeros file) = IsWholeBefore f last file × (f.bytes ≢ 0) × (f.is_zeros ≡ true)
 HoldsOfFile f last (TornEnd damage) = (f.survey.damage ≡ Some damage) × (damage.kind ≡ kind.Torn) × (last ≡ true)
@@ -39,6 +40,7 @@ abbrev pub HoldsOfLog : Inspection → Remark → Type 0
 HoldsOfLog i (NoLog has_wal) = (i.files.items ≡ []) × (has_wal ≡ i.has_wal)
 HoldsOfLog i (SegmentsMissing from first) = (first_segment i.files.items ≡ Some first) × (from ≡ following i.checkpoint) × (from < first)
 HoldsOfLog i (NoneBehind next) = (i.files.items ≢ []) × (first_segment i.files.items ≡ None) × (next ≡ following i.checkpoint) × (next < 2 ^ 64)
+HoldsOfLog i (PassedOver segments) = (segments ≡ i.passed_over) × (0 < segments)
 HoldsOfLog i (UnboundReferences references first) = (references ≡ i.unbound.references) × (i.unbound.first ≡ Some first)
 HoldsOfLog i other = ⊥
 

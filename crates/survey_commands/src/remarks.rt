@@ -3,7 +3,7 @@
 ghost use Rattle.std.specs.Prelude.{◌≡◌, ◌↔◌, ◌^◌, Contains, [], IfNone, IfOk, IfSome, OnOk, Some, length};
 ghost use Rattle.wal_log.specs.Inputs.{following};
 ghost use Rattle.survey_commands.specs.Remarks.{Holds, HoldsBelow, file_of as file_named, first_segment};
-ghost use Rattle.survey_commands.specs.Remarking.{AddsTo, blank_remark, damage_remark, file_remark, first_remark, log_remark, unbound_remark};
+ghost use Rattle.survey_commands.specs.Remarking.{AddsTo, blank_remark, damage_remark, file_remark, first_remark, log_remark, passed_remark, unbound_remark};
 
 use log_inspection::{FileSurvey, Inspection};
 use log_references::{Unbound, UnboundReference};
@@ -46,6 +46,10 @@ pub enum Remark {
     /// No segment is past the checkpoint: `next` would be the first. A server begins again with 0, and passes that over at its next start.
     NoneBehind {
         next: u64,
+    },
+    /// So many segments are not past the checkpoint, and are not read.
+    PassedOver {
+        segments: u64,
     },
     /// A file before the last one has no bytes.
     Empty(NumberedFile),
@@ -156,6 +160,17 @@ fn of_log(inspection: &Inspection) -> Option<Remark>
     of_first(from, first)
 }
 
+// Returns the remark on segments that are not past the checkpoint, if there are some.
+fn of_passed(segments: u64) -> Option<Remark>
+    ensures { result ≡ passed_remark segments }
+{
+    if segments == 0 {
+        None
+    } else {
+        Some(Remark::PassedOver { segments })
+    }
+}
+
 // Returns the remark on references that are not bound, if there is one.
 fn of_unbound(unbound: Unbound) -> Option<Remark>
     ensures { result ≡ unbound_remark unbound }
@@ -188,12 +203,14 @@ fn add_of_files(told: &mut Vec<Remark>, files: &[FileSurvey]) -> Result<(), Allo
     Ok(())
 }
 
-/// Returns the remarks on a log: on its files as a whole, then on each of them, in order, then on references that are not bound.
+/// Returns the remarks on a log: on its files as a whole, then on segments that are not past the checkpoint, then on each file, in order, then
+/// on references that are not bound.
 pub fn remarks_on(alloc: Global, inspection: &Inspection) -> Result<Vec<Remark>, AllocError>
     ensures { IfOk result (λ told. (r : Remark) → (Contains told.items r) ↔ (Holds inspection.now r)) }
 {
     let mut told = Vec::new(alloc);
     add(&mut told, of_log(inspection))?;
+    add(&mut told, of_passed(inspection.passed_over))?;
     add_of_files(&mut told, inspection.files.as_slice())?;
     add(&mut told, of_unbound(inspection.unbound))?;
     Ok(told)

@@ -134,6 +134,20 @@ fn push_none_behind(text: &mut String, next: u64) -> Result<(), AllocError> {
     Ok(())
 }
 
+// Appends that segments are not past the checkpoint.
+fn push_passed(text: &mut String, segments: u64) -> Result<(), AllocError> {
+    let (are, them) = if segments == 1 {
+        ("segment is", "it")
+    } else {
+        ("segments are", "them")
+    };
+    write!(
+        text,
+        "{segments} {are} not past the checkpoint, and no server reads {them}: what was written to {them} since is lost"
+    )?;
+    Ok(())
+}
+
 // Appends that a file has nothing in it.
 fn push_blank(text: &mut String, file: NumberedFile, what: &str) -> Result<(), AllocError> {
     write!(
@@ -187,6 +201,7 @@ pub(crate) fn push_remark(text: &mut String, remark: &Remark) -> Result<(), Allo
         Remark::NoLog { has_wal } => push_no_log(text, *has_wal),
         Remark::SegmentsMissing { from, first } => push_missing(text, *from, *first),
         Remark::NoneBehind { next } => push_none_behind(text, *next),
+        Remark::PassedOver { segments } => push_passed(text, *segments),
         Remark::Empty(file) => push_blank(text, *file, "is empty"),
         Remark::Zeros(file) => push_blank(text, *file, "has only zeros"),
         Remark::TornEnd(damage) => push_found(text, *damage, "ends inside a record", TORN),

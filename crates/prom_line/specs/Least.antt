@@ -1,0 +1,33 @@
+-- What is asked for, with another least valid time.
+use Rattle.std.specs.Prelude.{ℤ}
+use Rattle.head_replay.specs.declared.options.Options.{Options}
+use Rattle.prom_store.specs.declared.requests.BlockRequest.{BlockRequest}
+use Rattle.prom_store.specs.declared.requests.BlockRequest.TheVariants.{Block, Cut, Ranges}
+use Rattle.prom_store.specs.declared.requests.Request.{Request}
+use Rattle.prom_store.specs.declared.requests.Request.TheVariants.{Records, Replay, Series}
+use Rattle.prom_line.specs.declared.asked.Asked.{Asked}
+use Rattle.prom_line.specs.declared.asked.Asked.TheVariants.{Analyze, Append, Checkpoint, Dump, Inspect, OfBlocks, OfLog, Unpack}
+
+abbrev pub least_options : ℤ → Options → Options
+least_options least options = record options { min_valid = least }
+
+abbrev pub least_log : ℤ → Request → Request
+least_log least (Replay dir options) = Replay dir (least_options least options)
+least_log least (Records dir) = Records dir
+least_log least (Series dir pair options) = Series dir pair (least_options least options)
+
+abbrev pub least_blocks : ℤ → BlockRequest → BlockRequest
+least_blocks least (Ranges dir options) = Ranges dir (least_options least options)
+least_blocks least (Cut request) = Cut (record request { options = least_options least request.options })
+least_blocks least (Block path) = Block path
+
+-- the same, with this least valid time where it has one
+abbrev pub from_least : ℤ → Asked → Asked
+from_least least (OfLog request) = OfLog (least_log least request)
+from_least least (Inspect request) = Inspect request
+from_least least (Analyze request) = Analyze (record request { options = least_options least request.options })
+from_least least (Dump request) = Dump (record request { options = least_options least request.options })
+from_least least (OfBlocks request) = OfBlocks (least_blocks least request)
+from_least least (Append request) = Append (record request { options = least_options least request.options })
+from_least least (Checkpoint request) = Checkpoint (record request { min_valid = least })
+from_least least (Unpack request) = Unpack request

@@ -1,0 +1,96 @@
+//! The least valid time of what is asked for.
+
+ghost use Rattle.std.specs.Prelude.{◌≡◌};
+ghost use Rattle.prom_line.specs.Least.{from_least, least_blocks, least_log};
+
+use crate::asked::Asked;
+use head_replay::Options;
+use prom_store::{
+    AnalyzeRequest, AppendRequest, BlockRequest, CheckpointRequest, CutRequest, DumpRequest,
+    Request,
+};
+
+// Returns the request with this least valid time. One that replays nothing is returned unchanged.
+fn log_from(request: Request<'_>, min_valid: i64) -> Request<'_>
+    ensures { result ≡ least_log min_valid request.entry }
+{
+    match request {
+        Request::Replay { dir, options } => Request::Replay {
+            dir,
+            options: Options {
+                min_valid,
+                ..options
+            },
+        },
+        Request::Series { dir, pair, options } => Request::Series {
+            dir,
+            pair,
+            options: Options {
+                min_valid,
+                ..options
+            },
+        },
+        Request::Records { .. } => request,
+    }
+}
+
+// Returns the request with this least valid time. One that replays nothing is returned unchanged.
+fn blocks_from(request: BlockRequest<'_>, min_valid: i64) -> BlockRequest<'_>
+    ensures { result ≡ least_blocks min_valid request.entry }
+{
+    match request {
+        BlockRequest::Ranges { dir, options } => BlockRequest::Ranges {
+            dir,
+            options: Options {
+                min_valid,
+                ..options
+            },
+        },
+        BlockRequest::Cut(request) => BlockRequest::Cut(CutRequest {
+            options: Options {
+                min_valid,
+                ..request.options
+            },
+            ..request
+        }),
+        BlockRequest::Block { .. } => request,
+    }
+}
+
+impl<'a> Asked<'a> {
+    /// Returns the same with this least valid time, in milliseconds. What has none is returned unchanged.
+    pub fn from_least(self, min_valid: i64) -> Asked<'a>
+        ensures { result ≡ from_least min_valid self.entry }
+    {
+        match self {
+            Asked::OfLog(request) => Asked::OfLog(log_from(request, min_valid)),
+            Asked::OfBlocks(request) => Asked::OfBlocks(blocks_from(request, min_valid)),
+            Asked::Analyze(request) => Asked::Analyze(AnalyzeRequest {
+                options: Options {
+                    min_valid,
+                    ..request.options
+                },
+                ..request
+            }),
+            Asked::Dump(request) => Asked::Dump(DumpRequest {
+                options: Options {
+                    min_valid,
+                    ..request.options
+                },
+                ..request
+            }),
+            Asked::Append(request) => Asked::Append(AppendRequest {
+                options: Options {
+                    min_valid,
+                    ..request.options
+                },
+                ..request
+            }),
+            Asked::Checkpoint(request) => Asked::Checkpoint(CheckpointRequest {
+                min_valid,
+                ..request
+            }),
+            Asked::Inspect(_) | Asked::Unpack(_) => self,
+        }
+    }
+}

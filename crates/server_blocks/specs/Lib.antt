@@ -1,0 +1,3 @@
+pub mod Metas
+pub mod Greatest
+pub mod Servers
