@@ -2,3 +2,4 @@ pub mod HasLemmas
 pub mod KeptLemmas
 pub mod SlotLemmas
 pub mod EntryLemmas
+mod HeapLemmas

@@ -1,15 +1,16 @@
--- Each of the two heaps below a reference has fewer references than the heap.
-use Rattle.std.specs.Prelude.{ℕ, ◌+◌, ◌≤◌, max, ◌∷◌, ◌++◌, length}
-use Rattle.std.proofs.Common.{arith, length-append}
+-- Each of the two heaps below a reference is less high than the heap.
+use Rattle.std.specs.Prelude.{ℕ, ◌+◌, ◌≤◌, max}
+use Rattle.std.proofs.Common.{arith}
 use Rattle.series_references.specs.declared.heap.Link.{Link}
 use Rattle.series_references.specs.declared.heap.Link.TheVariants.{Empty, Full}
 use Rattle.series_references.specs.declared.heap.Heap.TheDeep.{deep-Link}
-use Rattle.series_references.specs.Heap.{items_of}
+use Rattle.series_references.specs.Heap.{height, Node}
+use Rattle.series_references.specs.Links.{tree_of}
 
-link_le : (l : Link) → deep-Link l ≤ length (items_of l) + 1
+link_le : (l : Link) → deep-Link l ≤ height (tree_of l) + 1
 link_le Empty = omega arith
 link_le (Full h) = omega arith
 
--- no heap below is deeper than the heap has references
-pub deep_le-length-items : (least : ℕ) (even odd : Link) → max (deep-Link even) (max (deep-Link odd) 0) ≤ length (least ∷ items_of even ++ items_of odd)
-deep_le-length-items least even odd = let a = link_le even in let b = link_le odd in let c = length-append (items_of even) (items_of odd) in omega (arith, a, b, c)
+-- no heap below is deeper than the heap is high
+pub deep_le-height : (least : ℕ) (even odd : Link) → max (deep-Link even) (max (deep-Link odd) 0) ≤ height (Node least (tree_of even) (tree_of odd))
+deep_le-height least even odd = let a = link_le even in let b = link_le odd in omega (arith, a, b)

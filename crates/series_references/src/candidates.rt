@@ -21,13 +21,14 @@ pub(crate) struct Candidates {
 impl Model for Candidates {
     ghost use Rattle.std.specs.Prelude.{List, ℕ, ◌≡◌, ◌≤◌, ◌∷◌, true};
     ghost use Rattle.series_references.specs.Has.{has};
-    ghost use Rattle.series_references.specs.Heap.{items_of};
+    ghost use Rattle.series_references.specs.Heap.{IsParted};
+    ghost use Rattle.series_references.specs.Links.{items_of, tree_of};
 
     ghost Value = { List ℕ };
 
     ghost view = { λ c. c.least ∷ items_of c.others };
 
-    ghost invariant = { λ c. (r : ℕ) → has (items_of c.others) r ≡ true → c.least ≤ r };
+    ghost invariant = { λ c. IsParted 0 0 (tree_of c.others) × ((r : ℕ) → has (items_of c.others) r ≡ true → c.least ≤ r) };
 }
 
 impl Candidates {

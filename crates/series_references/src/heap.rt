@@ -1,15 +1,16 @@
 //! A heap of references, the least first.
 
-ghost use Rattle.std.specs.Prelude.{◌≡◌, ◌+◌, ◌≤◌, ◌∷◌, [], ℕ, true, length, slice_index, IfOk};
+ghost use Rattle.std.specs.Prelude.{◌≡◌, ◌+◌, ◌<◌, ◌≤◌, ◌%◌, ◌^◌, ◌∷◌, ◌++◌, ℕ, true, false, length, slice_index, IfOk};
 ghost use Rattle.series_references.specs.Has.{has};
-ghost use Rattle.series_references.specs.Heap.{items_of};
+ghost use Rattle.series_references.specs.Heap.{references, IsBelowAll, IsParted, Leaf, Node};
+ghost use Rattle.series_references.specs.Links.{items_of, tree_of};
 
 use std::alloc::{AllocError, Global};
 use std::marker::Model;
 use std::mem;
 
-/// A reference, and two heaps of greater ones. Which of the two a reference is added to depends on its bits, the last bit first, so a
-/// heap is never deeper than a reference has bits. Contracts see the references, the least first.
+/// A reference, and two heaps of greater ones. Which of the two a reference is added to depends on its bits, the last bit first, so
+/// fewer references lie one below another than a reference has bits and one (`heap_height`). Contracts see the references as they lie.
 #[cycle(heap)]
 #[derive(Debug, Drop)]
 pub struct Heap {
@@ -27,29 +28,33 @@ pub(crate) enum Link {
 }
 
 impl Model for Heap {
-    ghost use Rattle.std.specs.Prelude.{List, ℕ, ◌≡◌, ◌≤◌, ◌∷◌, ◌++◌, true, length};
+    ghost use Rattle.std.specs.Prelude.{◌≡◌, ◌≤◌, ◌++◌, ℕ, true};
+    ghost use Rattle.series_references.specs.Has.{has};
+    ghost use Rattle.series_references.specs.Heap.{height, Node, Tree};
+    ghost use Rattle.series_references.specs.HeapCode.{tree_code};
 
-    ghost Value = { List ℕ };
+    ghost Value = { Tree };
+
+    ghost coded = { tree_code };
 
     // below `Value`, since these name the type
-    ghost use Rattle.series_references.specs.Has.{has};
-    ghost use Rattle.series_references.specs.Heap.{items_of};
+    ghost use Rattle.series_references.specs.Links.{items_of, tree_of};
 
-    ghost view = { λ h. h.least ∷ items_of h.even ++ items_of h.odd };
+    ghost view = { λ h. Node h.least (tree_of h.even) (tree_of h.odd) };
 
     ghost invariant = { λ h. (r : ℕ) → has (items_of h.even ++ items_of h.odd) r ≡ true → h.least ≤ r };
 
-    ghost size = { length };
+    ghost size = { height };
 
-    ghost use Rattle.series_references.specs.HeapFalls.{deep_le-length-items};
+    ghost use Rattle.series_references.specs.HeapFalls.{deep_le-height};
 
-    ghost size_decreases = { λ a h. deep_le-length-items a.least a.even a.odd };
+    ghost size_decreases = { λ a h. deep_le-height a.least a.even a.odd };
 }
 
 impl Heap {
     // Returns one reference alone.
     fn single(reference: u64) -> Heap
-        ensures { result ≡ reference ∷ [] }
+        ensures { result ≡ Node reference Leaf Leaf }
     {
         Heap {
             least: reference,
@@ -65,8 +70,9 @@ impl Heap {
 
     // Returns the least reference.
     pub(crate) fn least(&self) -> u64
-        ensures first { result ≡ slice_index self.now 0 }
-        ensures least { (r : ℕ) → has self.now r ≡ true → result ≤ r }
+        ensures first { result ≡ slice_index (references self.now) 0 }
+        ensures there { has (references self.now) result ≡ true }
+        ensures least { (r : ℕ) → has (references self.now) r ≡ true → result ≤ r }
     {
         self.least
     }
@@ -85,13 +91,19 @@ impl Heap {
 }
 
 // Returns whether the bit of a reference at a depth is 0.
-fn is_even(reference: u64, depth: u32) -> bool {
-    reference.wrapping_shr(depth) % 2 == 0
+fn is_even(reference: u64, depth: u32) -> bool
+    requires { depth < 64 }
+    ensures even { result ≡ true → reference % 2 ^ (depth + 1) ≡ reference % 2 ^ depth }
+    ensures odd { result ≡ false → reference % 2 ^ (depth + 1) ≡ reference % 2 ^ depth + 2 ^ depth }
+{
+    (reference >> depth) % 2 == 0
 }
 
-// Returns the heap with one more reference, in a box that was made for it.
+// Returns the heap with one more reference, in a box that was made for it. So many last bits of all are those of the reference.
 pub(crate) fn with(link: Link, reference: u64, depth: u32, mut node: Box<Heap>) -> Box<Heap>
-    ensures { (r : ℕ) → has result.value r ≡ has (reference ∷ items_of link) r }
+    requires { IsParted depth (reference % 2 ^ depth) (tree_of link) }
+    ensures with { (r : ℕ) → has (references result.value) r ≡ has (reference ∷ items_of link) r }
+    ensures parted { IsParted depth (reference % 2 ^ depth) result.value }
 {
     match link {
         Link::Empty => {
@@ -109,15 +121,14 @@ pub(crate) fn with(link: Link, reference: u64, depth: u32, mut node: Box<Heap>) 
             } = mem::replace(&mut *heap, Heap::single(0));
             let greater = first.max(reference);
             let least = first.min(reference);
-            let depth_below = depth.wrapping_add(1);
             if is_even(greater, depth) {
-                let below = with(even, greater, depth_below, node);
+                let below = with(even, greater, depth + 1, node);
                 let even = Link::Full(below);
                 let whole = Heap { least, even, odd };
                 *heap = whole;
                 return heap;
             }
-            let below = with(odd, greater, depth_below, node);
+            let below = with(odd, greater, depth + 1, node);
             let odd = Link::Full(below);
             let whole = Heap { least, even, odd };
             *heap = whole;
@@ -126,10 +137,22 @@ pub(crate) fn with(link: Link, reference: u64, depth: u32, mut node: Box<Heap>) 
     }
 }
 
-// Returns the heap without its least reference.
+// Returns the box with a reference and two heaps of greater ones.
+fn under(mut heap: Box<Heap>, least: u64, even: Link, odd: Link) -> Link
+    requires { (r : ℕ) → has (items_of even ++ items_of odd) r ≡ true → least ≤ r }
+    ensures { tree_of result ≡ Node least (tree_of even) (tree_of odd) }
+{
+    let whole = Heap { least, even, odd };
+    *heap = whole;
+    Link::Full(heap)
+}
+
+// Returns the heap without its least reference. A heap below it stays where it is, so that its references are parted by the same bits.
 pub(crate) fn without_least(mut heap: Box<Heap>) -> Link
-    ensures fewer { length heap.value ≡ length (items_of result) + 1 }
-    ensures same { (r : ℕ) → has heap.value r ≡ has (slice_index heap.value 0 ∷ items_of result) r }
+    ensures fewer { length (references heap.value) ≡ length (items_of result) + 1 }
+    ensures same { (r : ℕ) → has (references heap.value) r ≡ has (slice_index (references heap.value) 0 ∷ items_of result) r }
+    ensures parted { (depth bits : ℕ) → IsParted depth bits heap.value → IsParted depth bits (tree_of result) }
+    ensures above { (depth bits : ℕ) → IsParted depth bits heap.value → IsBelowAll (slice_index (references heap.value) 0) (items_of result) }
 {
     let Heap {
         least: _,
@@ -137,32 +160,29 @@ pub(crate) fn without_least(mut heap: Box<Heap>) -> Link
         odd,
     } = mem::replace(&mut *heap, Heap::single(0));
     match even {
-        Link::Empty => odd,
+        Link::Empty => match odd {
+            Link::Empty => Link::Empty,
+            Link::Full(odd) => {
+                let least = odd.least();
+                let odd = without_least(odd);
+                under(heap, least, Link::Empty, odd)
+            }
+        },
         Link::Full(even) => match odd {
-            Link::Empty => Link::Full(even),
+            Link::Empty => {
+                let least = even.least();
+                let even = without_least(even);
+                under(heap, least, even, Link::Empty)
+            }
             Link::Full(odd) => {
                 let first = even.least();
                 let second = odd.least();
                 if first < second {
                     let even = without_least(even);
-                    let odd = Link::Full(odd);
-                    let whole = Heap {
-                        least: first,
-                        even,
-                        odd,
-                    };
-                    *heap = whole;
-                    return Link::Full(heap);
+                    return under(heap, first, even, Link::Full(odd));
                 }
-                let even = Link::Full(even);
                 let odd = without_least(odd);
-                let whole = Heap {
-                    least: second,
-                    even,
-                    odd,
-                };
-                *heap = whole;
-                Link::Full(heap)
+                under(heap, second, Link::Full(even), odd)
             }
         },
     }
@@ -171,7 +191,7 @@ pub(crate) fn without_least(mut heap: Box<Heap>) -> Link
 // Returns a copy of a heap.
 #[cycle(copies)]
 pub(crate) fn copied(alloc: Global, link: &Link) -> Result<Link, AllocError>
-    ensures { IfOk result (λ copy. items_of copy ≡ items_of link.now) }
+    ensures { IfOk result (λ copy. tree_of copy ≡ tree_of link.now) }
 {
     match link {
         Link::Empty => Ok(Link::Empty),

@@ -8,12 +8,14 @@
 mod candidates;
 mod greatest;
 mod heap;
+mod laws;
 mod maps;
 mod reference_slots;
 mod references;
 
 pub use greatest::with_reference;
 pub use heap::Heap;
+pub use laws::heap_height;
 pub use maps::copied;
 pub use reference_slots::LOW_END;
 pub use references::References;
