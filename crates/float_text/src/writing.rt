@@ -1,9 +1,11 @@
 //! Writing a floating point number.
 
-ghost use Rattle.std.specs.Prelude.{◌≡◌, IsTrue, OnOk, Some, string_bytes, to_bits};
+ghost use Rattle.std.specs.Prelude.{◌≡◌, ◌++◌, IsTrue, OnOk, Some, string_bytes, to_bits};
+ghost use Rattle.std.specs.Int.{cast_unsigned, w64};
 ghost use Rattle.std.specs.Float.{NotNan, binary64};
 ghost use Rattle.std.specs.Float.Ieee.{nan_bits};
-ghost use Rattle.float_text.specs.FloatText.{AppendsWord, Reads, float_bits};
+ghost use Rattle.float_text.specs.FloatText.{AppendsWord, Reads, float_bits, normal_nan, stale_nan};
+ghost use lib.Chars.{codes};
 
 use crate::not_a_number::{NORMAL_NAN, STALE_NAN, is_nan};
 use ryu::Buffer;
@@ -27,8 +29,10 @@ fn push_number(text: &mut String, number: f64) -> Result<(), AllocError>
 // Appends the name of the not-a-number with these bits.
 fn push_name(text: &mut String, bits: u64) -> Result<(), AllocError>
     requires { IsTrue (nan_bits binary64 bits) }
-    ensures { OnOk result (AppendsWord (λ word. float_bits word ≡ Some bits)
+    ensures word { OnOk result (AppendsWord (λ word. float_bits word ≡ Some bits)
         (string_bytes text.old) (string_bytes text.new)) }
+    ensures normal { bits ≡ normal_nan → OnOk result (string_bytes text.new ≡ string_bytes text.old ++ codes "NaN") }
+    ensures stale { bits ≡ stale_nan → OnOk result (string_bytes text.new ≡ string_bytes text.old ++ codes "stale") }
 {
     match bits {
         NORMAL_NAN => text.push_str("NaN"),
@@ -48,7 +52,9 @@ fn push_name(text: &mut String, bits: u64) -> Result<(), AllocError>
 ///
 /// Returns an error if memory runs out. The front of the word may then have been appended.
 pub fn push_float(text: &mut String, bits: i64) -> Result<(), AllocError>
-    ensures { OnOk result (AppendsWord (λ word. Reads word bits) (string_bytes text.old) (string_bytes text.new)) }
+    ensures word { OnOk result (AppendsWord (λ word. Reads word bits) (string_bytes text.old) (string_bytes text.new)) }
+    ensures normal { cast_unsigned w64 bits ≡ normal_nan → OnOk result (string_bytes text.new ≡ string_bytes text.old ++ codes "NaN") }
+    ensures stale { cast_unsigned w64 bits ≡ stale_nan → OnOk result (string_bytes text.new ≡ string_bytes text.old ++ codes "stale") }
 {
     let bits = bits.cast_unsigned();
     if is_nan(bits) {

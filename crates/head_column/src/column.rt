@@ -105,18 +105,21 @@ impl Column {
         self.hidden.as_slice()
     }
 
-    /// Copies the accepted samples, in order: each time is greater than the one before. Returns an error if out of memory.
+    /// Copies the accepted samples, in order: each time is greater than the one before. Returns an error if out of memory, only if there
+    /// are samples.
     pub fn samples(&self) -> Result<Vec<Sample>, AllocError>
         ensures samples { IfOk result (λ samples. samples.items ≡ self.now.history.samples) }
         ensures rises { IfOk result (λ samples. Rises samples.items) }
+        ensures none { self.now.history.samples ≡ [] → IsOk result }
     {
         self.samples.to_vec()
     }
 
     /// Encodes the accepted samples of an hour in chunks of 120, counted from the first sample in the hour; the last chunk may have
-    /// fewer. Returns an error if out of memory. The last three clauses hold of every column.
+    /// fewer. Returns an error if out of memory, only if there are samples in the hour. The last three clauses hold of every column.
     pub fn chunks_in(&self, hour: Hour) -> Result<Vec<Chunk>, AllocError>
         ensures chunks { IfOk result (λ chunks. chunks.items ≡ chunks_of (filter (λ s. is_in_hour hour s.time) self.now.history.samples)) }
+        ensures none { filter (λ s. is_in_hour hour s.time) self.now.history.samples ≡ [] → IsOk result }
         ensures rises { Rises self.now.history.samples }
         ensures fit { All IsFit self.now.history.samples }
         ensures apart { AreApart self.now.history.hidden }

@@ -1,6 +1,6 @@
 //! Cutting the samples of an hour into chunks.
 
-ghost use Rattle.std.specs.Prelude.{◌≡◌, ◌<◌, ◌≤◌, drop, filter, length, take, IfOk, OnOk};
+ghost use Rattle.std.specs.Prelude.{◌≡◌, ◌<◌, ◌≤◌, [], drop, filter, length, take, IfOk, IsOk, OnOk};
 ghost use Rattle.head_column.specs.Samples.{Rises};
 ghost use Rattle.head_column.specs.Hours.{is_in_hour};
 ghost use Rattle.head_column.specs.Chunks.{chunk_of, chunk_samples, chunks_of};
@@ -41,7 +41,8 @@ fn take_chunk(alloc: Global, rest: &mut Stretch<'_>, count: usize) -> Result<Chu
 
 // Encodes all these samples in chunks.
 fn cut_all(alloc: Global, samples: Stretch<'_>) -> Result<Vec<Chunk>, AllocError>
-    ensures { IfOk result (λ chunks. chunks.items ≡ chunks_of samples.entry) }
+    ensures chunks { IfOk result (λ chunks. chunks.items ≡ chunks_of samples.entry) }
+    ensures none { samples.entry ≡ [] → IsOk result }
 {
     let mut chunks = Vec::new(alloc);
     let mut rest = samples;
@@ -56,7 +57,8 @@ fn cut_all(alloc: Global, samples: Stretch<'_>) -> Result<Vec<Chunk>, AllocError
 /// Encodes the samples of the hour in chunks of 120; the last chunk may have fewer.
 pub(crate) fn cut_chunks(samples: &SampleLists, hour: Hour) -> Result<Vec<Chunk>, AllocError>
     requires { Rises samples.now.samples }
-    ensures { IfOk result (λ chunks. chunks.items ≡ chunks_of (filter (λ s. is_in_hour hour s.time) samples.now.samples)) }
+    ensures chunks { IfOk result (λ chunks. chunks.items ≡ chunks_of (filter (λ s. is_in_hour hour s.time) samples.now.samples)) }
+    ensures none { filter (λ s. is_in_hour hour s.time) samples.now.samples ≡ [] → IsOk result }
 {
     let (start, end) = hour.bounds();
     cut_all(samples.alloc(), samples.between(start, end))

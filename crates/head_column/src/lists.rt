@@ -200,9 +200,14 @@ impl SampleLists {
 
     /// Copies the samples. Returns an error if out of memory.
     pub(crate) fn to_vec(&self) -> Result<Vec<Sample>, AllocError>
-        ensures { IfOk result (λ samples. samples.items ≡ self.now.samples) }
+        ensures samples { IfOk result (λ samples. samples.items ≡ self.now.samples) }
+        ensures none { self.now.samples ≡ [] → IsOk result }
     {
-        let mut samples = Vec::with_capacity(self.alloc(), self.len())?;
+        let len = self.len();
+        if len == 0 {
+            return Ok(Vec::new(self.alloc()));
+        }
+        let mut samples = Vec::with_capacity(self.alloc(), len)?;
         for list in &self.lists {
             samples.extend_from_slice(list)?;
         }
