@@ -78,13 +78,21 @@ const FILES: &[(Unpacking, &str)] = &[
         ),
         "0 18 8DAC9059; Some(UnpackDamage { offset: 24, fault: BadBlock(TooShort) })",
     ),
-    // no block at all
+    // no block
+    (
+        Unpacking(
+            b"\x09\x00\x11\x0C\xBEl\x96\x12\x04\x01\x00\x09\x01$\x01\x01\x03job\x03api\x09\x00\x01\xD0\x8Bh)\
+            \x80",
+        ),
+        "0 18 8DAC9059; Some(UnpackDamage { offset: 24, fault: BadBlock(BadLength) })",
+    ),
+    // a mark and no byte
     (
         Unpacking(
             b"\x09\x00\x11\x0C\xBEl\x96\x12\x04\x01\x00\x09\x01$\x01\x01\x03job\x03api\x09\x00\x00\x00\x00\x00\
             \x00",
         ),
-        "0 18 8DAC9059; Some(UnpackDamage { offset: 24, fault: BadBlock(BadLength) })",
+        "0 18 8DAC9059; 24 0 00000000; None",
     ),
     // two blocks in one record
     (

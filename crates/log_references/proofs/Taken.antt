@@ -1,13 +1,14 @@
 -- What is kept of records, with one record more.
-use Rattle.std.proofs.Common.{◌≡◌, ℕ, Bool, true, false, List, [], ◌∷◌, ◌++◌, refl, sym, ap, ◌∙◌, append_assoc}
+use Rattle.std.proofs.Common.{◌≡◌, ℕ, ℤ, Bool, true, false, List, [], ◌∷◌, ◌++◌, refl, sym, ap, ◌∙◌, append_assoc}
 use Rattle.std.specs.Prelude.{◌||◌, filter, fold, not, nat_eq, if◌then◌else◌}
-use Rattle.std.specs.List.{list_any}
+use Rattle.std.specs.List.{flat_map, list_any}
 use Rattle.std.proofs.lemmas.List.Folds.{list_any-append}
 use Rattle.hw_bytes.specs.Lists.{distinct, if_new}
 use Rattle.hw_bytes.proofs.Lists.{along-push, append_none, flat_map-push}
 use Rattle.wal_record.specs.declared.record.SampleEntry.{SampleEntry}
 use Rattle.wal_record.specs.declared.record.SeriesEntry.{SeriesEntry}
 use Rattle.wal_record.specs.declared.record.WalRecord.TheVariants.{Samples, Series}
+use Rattle.wal_record.specs.Validity.{valid_sample}
 use Rattle.wal_log.specs.declared.reading.Place.{Place}
 use Rattle.wal_log.specs.declared.reading.Placed.{Placed}
 use Rattle.log_references.specs.declared.references.UnboundReference.{UnboundReference}
@@ -37,10 +38,10 @@ bound_more placed p references e r =
     ∙ list_any-append (nat_eq r) _ (bound_by p.content)
     ∙ ap (λ z. is_bound_in placed r || list_any (nat_eq r) z) e
 
-named_more : (placed : List Placed) (p : Placed) (references : List ℕ) → named_by p.content ≡ references → named_in (placed ++ p ∷ []) ≡ named_in placed ++ at_place p.place references
-named_more placed p references e =
-    flat_map-push (λ (q : Placed). at_place q.place (named_by q.content)) placed p
-    ∙ ap (λ z. named_in placed ++ at_place p.place z) e
+named_more : (m : ℤ) (placed : List Placed) (p : Placed) (references : List ℕ) → named_by m p.content ≡ references → named_in m (placed ++ p ∷ []) ≡ named_in m placed ++ at_place p.place references
+named_more m placed p references e =
+    flat_map-push (λ (q : Placed). at_place q.place (named_by m q.content)) placed p
+    ∙ ap (λ z. named_in m placed ++ at_place p.place z) e
 
 -- tests that agree
 kept_alike : (f g : ℕ → Bool) → ((r : ℕ) → f r ≡ g r) → (us : List UnboundReference) → filter (kept f) us ≡ filter (kept g) us
@@ -63,24 +64,25 @@ module _ (f g : ℕ → Bool) (later : (r : ℕ) → g r ≡ false → f r ≡ f
     by rest false e false h = rw h (rw e rest)
 
 -- a record of series more
-pub series_taken : (placed : List Placed) (p : Placed) (entries : List SeriesEntry) (old : ReferencesValue) (new : ReferenceSetValue) → p.content ≡ Series entries → AreReferencesOf placed old
-    → ((r : ℕ) → has new r ≡ (list_any (nat_eq r) (series_references entries) || has old.bound r)) → AreReferencesOf (placed ++ p ∷ []) (record { bound = new; noted = old.noted })
-series_taken placed p entries old new is h more =
+pub series_taken : (m : ℤ) (placed : List Placed) (p : Placed) (entries : List SeriesEntry) (old : ReferencesValue) (new : ReferenceSetValue) → p.content ≡ Series entries → AreReferencesOf m placed old
+    → ((r : ℕ) → has new r ≡ (list_any (nat_eq r) (series_references entries) || has old.bound r)) → AreReferencesOf m (placed ++ p ∷ []) (record { bound = new; noted = old.noted; min_valid = old.min_valid })
+series_taken m placed p entries old new is h more =
     let bound : (r : ℕ) → has new r ≡ is_bound_in (placed ++ p ∷ []) r = λ r.
     more r
     ∙ ap (λ z. list_any (nat_eq r) (series_references entries) || z) (h.bound r)
     ∙ or_comm (list_any (nat_eq r) (series_references entries)) (is_bound_in placed r)
     ∙ sym (bound_more placed p (series_references entries) (ap bound_by is) r) in
     let was : (r : ℕ) → has new r ≡ false → has old.bound r ≡ false = λ r e. neither (list_any (nat_eq r) (series_references entries)) (has old.bound r) (has new r) (more r) e in
-    let names : named_in (placed ++ p ∷ []) ≡ named_in placed = named_more placed p [] (ap named_by is) ∙ append_none (named_in placed) in
+    let names : named_in m (placed ++ p ∷ []) ≡ named_in m placed = named_more m placed p [] (ap (named_by m) is) ∙ append_none (named_in m placed) in
     record {
+      min_valid = h.min_valid;
       bound = bound;
       noted =
           kept_on (has old.bound) (has new) was old.noted
           ∙ ap (filter (kept (has new))) h.noted
-          ∙ sym (distinct_kept (has new) (filter (kept (is_bound_in placed)) (named_in placed)))
-          ∙ ap (distinct same_reference) (sym (kept_on (is_bound_in placed) (has new) (λ r e. sym (h.bound r) ∙ was r e) (named_in placed)))
-          ∙ ap (distinct same_reference) (kept_alike (has new) (is_bound_in (placed ++ p ∷ [])) bound (named_in placed))
+          ∙ sym (distinct_kept (has new) (filter (kept (is_bound_in placed)) (named_in m placed)))
+          ∙ ap (distinct same_reference) (sym (kept_on (is_bound_in placed) (has new) (λ r e. sym (h.bound r) ∙ was r e) (named_in m placed)))
+          ∙ ap (distinct same_reference) (kept_alike (has new) (is_bound_in (placed ++ p ∷ [])) bound (named_in m placed))
           ∙ ap (λ z. distinct same_reference (filter (kept (is_bound_in (placed ++ p ∷ []))) z)) (sym names);
     }
 
@@ -114,30 +116,32 @@ all_on bound noted names (u ∷ us) h =
     ∙ ap (λ z. distinct same_reference (filter (kept (has bound)) z)) (append_assoc names (u ∷ []) us)
 
 -- a record of samples more
-pub samples_taken : (placed : List Placed) (p : Placed) (place : Place) (samples : List SampleEntry) (old : ReferencesValue) (noted : List UnboundReference) → p.place ≡ place → p.content ≡ Samples samples → AreReferencesOf placed old
-    → noted ≡ noted_with_all old.bound old.noted place (sample_references samples) → AreReferencesOf (placed ++ p ∷ []) (record { bound = old.bound; noted = noted })
-samples_taken placed p place samples old noted here is h made =
+pub samples_taken : (m : ℤ) (placed : List Placed) (p : Placed) (place : Place) (samples : List SampleEntry) (old : ReferencesValue) (noted : List UnboundReference) → p.place ≡ place → p.content ≡ Samples samples → AreReferencesOf m placed old
+    → noted ≡ noted_with_all old.bound old.noted place (sample_references (flat_map (valid_sample m) samples)) → AreReferencesOf m (placed ++ p ∷ []) (record { bound = old.bound; noted = noted; min_valid = old.min_valid })
+samples_taken m placed p place samples old noted here is h made =
     let bound : (r : ℕ) → has old.bound r ≡ is_bound_in (placed ++ p ∷ []) r = λ r. h.bound r ∙ sym (bound_more placed p [] (ap bound_by is) r ∙ or_none (is_bound_in placed r)) in
-    let names : named_in (placed ++ p ∷ []) ≡ named_in placed ++ at_place place (sample_references samples) =
-    named_more placed p (sample_references samples) (ap named_by is) ∙ ap (λ z. named_in placed ++ at_place z (sample_references samples)) here in
+    let names : named_in m (placed ++ p ∷ []) ≡ named_in m placed ++ at_place place (sample_references (flat_map (valid_sample m) samples)) =
+    named_more m placed p (sample_references (flat_map (valid_sample m) samples)) (ap (named_by m) is) ∙ ap (λ z. named_in m placed ++ at_place z (sample_references (flat_map (valid_sample m) samples))) here in
     record {
+      min_valid = h.min_valid;
       bound = bound;
       noted =
           ap (filter (kept (has old.bound))) made
-          ∙ all_on old.bound old.noted (named_in placed) (at_place place (sample_references samples)) (h.noted ∙ ap (distinct same_reference) (sym (kept_alike (has old.bound) (is_bound_in placed) h.bound (named_in placed))))
+          ∙ all_on old.bound old.noted (named_in m placed) (at_place place (sample_references (flat_map (valid_sample m) samples))) (h.noted ∙ ap (distinct same_reference) (sym (kept_alike (has old.bound) (is_bound_in placed) h.bound (named_in m placed))))
           ∙ ap (λ z. distinct same_reference (filter (kept (has old.bound)) z)) (sym names)
-          ∙ ap (distinct same_reference) (kept_alike (has old.bound) (is_bound_in (placed ++ p ∷ [])) bound (named_in (placed ++ p ∷ [])));
+          ∙ ap (distinct same_reference) (kept_alike (has old.bound) (is_bound_in (placed ++ p ∷ [])) bound (named_in m (placed ++ p ∷ [])));
     }
 
 -- a record more that binds and names nothing
-pub other_taken : (placed : List Placed) (p : Placed) (old : ReferencesValue) → bound_by p.content ≡ [] → named_by p.content ≡ [] → AreReferencesOf placed old → AreReferencesOf (placed ++ p ∷ []) old
-other_taken placed p old binds names h =
+pub other_taken : (m : ℤ) (placed : List Placed) (p : Placed) (old : ReferencesValue) → bound_by p.content ≡ [] → named_by m p.content ≡ [] → AreReferencesOf m placed old → AreReferencesOf m (placed ++ p ∷ []) old
+other_taken m placed p old binds names h =
     let bound : (r : ℕ) → has old.bound r ≡ is_bound_in (placed ++ p ∷ []) r = λ r. h.bound r ∙ sym (bound_more placed p [] binds r ∙ or_none (is_bound_in placed r)) in
-    let more : named_in (placed ++ p ∷ []) ≡ named_in placed = named_more placed p [] names ∙ append_none (named_in placed) in
+    let more : named_in m (placed ++ p ∷ []) ≡ named_in m placed = named_more m placed p [] names ∙ append_none (named_in m placed) in
     record {
+      min_valid = h.min_valid;
       bound = bound;
       noted =
           h.noted
-          ∙ ap (distinct same_reference) (kept_alike (is_bound_in placed) (is_bound_in (placed ++ p ∷ [])) (λ r. sym (h.bound r) ∙ bound r) (named_in placed))
+          ∙ ap (distinct same_reference) (kept_alike (is_bound_in placed) (is_bound_in (placed ++ p ∷ [])) (λ r. sym (h.bound r) ∙ bound r) (named_in m placed))
           ∙ ap (λ z. distinct same_reference (filter (kept (is_bound_in (placed ++ p ∷ []))) z)) (sym more);
     }

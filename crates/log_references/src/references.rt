@@ -1,9 +1,10 @@
 //! The references of records, one after another.
 
-ghost use Rattle.std.specs.Prelude.{◌≡◌, ◌++◌, ◌∷◌, ◌||◌, [], ℕ, List, count_by, not, nat_eq, position, slice_get, OnOk};
-ghost use Rattle.std.specs.List.{find, list_any};
+ghost use Rattle.std.specs.Prelude.{◌≡◌, ◌++◌, ◌∷◌, ◌&&◌, ◌||◌, [], ℕ, ℤ, List, count_by, int_le, not, nat_eq, position, slice_get, OnOk};
+ghost use Rattle.std.specs.List.{find, flat_map, list_any};
 ghost use Rattle.std.specs.Option.{option_map};
 ghost use Rattle.wal_record.specs.declared.record.WalRecord.TheVariants.{Samples, Series};
+ghost use Rattle.wal_record.specs.Validity.{valid_sample};
 ghost use Rattle.wal_log.specs.declared.reading.Placed.{Placed as PlacedRecord};
 ghost use Rattle.log_references.specs.ReferenceSets.{has};
 ghost use Rattle.log_references.specs.Keeping.{note_of, notes_of, noted_with, noted_with_all};
@@ -37,6 +38,8 @@ pub struct References {
     bound: ReferenceSet,
     // the references that were named before they were bound, in the order of first sight, with the place of the record of that sight
     noted: IndexMap<u64, Place, HashSeed>,
+    // the least valid time, in milliseconds: no sample before it is noted
+    min_valid: i64,
 }
 
 // Written out, so that a function that drops one has a call in its proof, and not a copy of this body.
@@ -45,6 +48,7 @@ impl Drop for References {
         let References {
             bound: _bound,
             noted: _noted,
+            min_valid: _min_valid,
         } = self;
     }
 }
@@ -55,7 +59,7 @@ impl Model for References {
 
     ghost Value = { ReferencesValue };
 
-    ghost view = { λ s. record { bound = s.bound; noted = notes_of s.noted.entries } };
+    ghost view = { λ s. record { bound = s.bound; noted = notes_of s.noted.entries; min_valid = s.min_valid } };
 }
 
 // Adds the references of series entries to those that are bound.
@@ -83,17 +87,25 @@ fn note(
     Ok(())
 }
 
-// Notes the references of samples that are not bound, with the place of their record, unless they are noted.
+// Returns whether a sample is not before the least valid time, and its reference not bound.
+fn is_lost(bound: &ReferenceSet, min_valid: i64, sample: &SampleEntry) -> bool
+    ensures { result ≡ (int_le min_valid sample.now.time && not (has bound.now sample.now.reference)) }
+{
+    min_valid <= sample.time && !bound.contains(sample.reference)
+}
+
+// Notes the references of samples from the least valid time on that are not bound, with the place of their record, unless they are noted.
 fn note_all(
     bound: &ReferenceSet,
+    min_valid: i64,
     noted: &mut IndexMap<u64, Place, HashSeed>,
     place: Place,
     samples: &[SampleEntry],
 ) -> Result<(), AllocError>
-    ensures { OnOk result (notes_of noted.new.entries ≡ noted_with_all bound.now (notes_of noted.old.entries) place (sample_references samples.now)) }
+    ensures { OnOk result (notes_of noted.new.entries ≡ noted_with_all bound.now (notes_of noted.old.entries) place (sample_references (flat_map (valid_sample min_valid) samples.now))) }
 {
     for sample in samples {
-        if !bound.contains(sample.reference) {
+        if is_lost(bound, min_valid, sample) {
             note(noted, sample.reference, place)?;
         }
     }
@@ -146,34 +158,36 @@ fn first_missing(
 }
 
 impl References {
-    /// Makes the references of no records, with hashes by a seed.
-    pub fn new(alloc: Global, seed: HashSeed) -> References
-        ensures { AreReferencesOf [] result }
+    /// Makes the references of no records, with hashes by a seed, and with the least valid time, in milliseconds: of the samples before it
+    /// no reference counts.
+    pub fn new(alloc: Global, seed: HashSeed, min_valid: i64) -> References
+        ensures { AreReferencesOf min_valid [] result }
     {
         References {
             bound: ReferenceSet::new(alloc, seed),
             noted: IndexMap::with_hasher(alloc, seed),
+            min_valid,
         }
     }
 
     // Takes a record of series. Returns an error if out of memory.
     fn add_series(&mut self, series: &[SeriesEntry]) -> Result<(), AllocError>
-        ensures { (placed : List PlacedRecord) (p : PlacedRecord) → p.content ≡ Series series.now → AreReferencesOf placed self.old → OnOk result (AreReferencesOf (placed ++ p ∷ []) self.new) }
+        ensures { (m : ℤ) (placed : List PlacedRecord) (p : PlacedRecord) → p.content ≡ Series series.now → AreReferencesOf m placed self.old → OnOk result (AreReferencesOf m (placed ++ p ∷ []) self.new) }
     {
         bind(&mut self.bound, series)
     }
 
     // Takes a record of samples at this place. Returns an error if out of memory.
     fn add_samples(&mut self, place: Place, samples: &[SampleEntry]) -> Result<(), AllocError>
-        ensures { (placed : List PlacedRecord) (p : PlacedRecord) → p.place ≡ place → p.content ≡ Samples samples.now → AreReferencesOf placed self.old → OnOk result (AreReferencesOf (placed ++ p ∷ []) self.new) }
+        ensures { (m : ℤ) (placed : List PlacedRecord) (p : PlacedRecord) → p.place ≡ place → p.content ≡ Samples samples.now → AreReferencesOf m placed self.old → OnOk result (AreReferencesOf m (placed ++ p ∷ []) self.new) }
     {
-        note_all(&self.bound, &mut self.noted, place, samples)
+        note_all(&self.bound, self.min_valid, &mut self.noted, place, samples)
     }
 
-    /// Takes the next record: binds the references of its series, and notes those of its samples that are not bound yet. Returns an error if
-    /// out of memory.
+    /// Takes the next record: binds the references of its series, and notes those of its samples from the least valid time on that are not
+    /// bound yet. Returns an error if out of memory.
     pub fn add(&mut self, record: &Placed) -> Result<(), AllocError>
-        ensures { (placed : List PlacedRecord) → AreReferencesOf placed self.old → OnOk result (AreReferencesOf (placed ++ record.now ∷ []) self.new) }
+        ensures { (m : ℤ) (placed : List PlacedRecord) → AreReferencesOf m placed self.old → OnOk result (AreReferencesOf m (placed ++ record.now ∷ []) self.new) }
     {
         match &record.content {
             WalRecord::Series(series) => self.add_series(series.as_slice()),
@@ -183,10 +197,10 @@ impl References {
         }
     }
 
-    /// Returns the references of the samples of all records that were taken which no series entry of these records binds, be it before a
-    /// sample or behind it.
+    /// Returns the references of the samples from the least valid time on, of all records that were taken, which no series entry of these
+    /// records binds, be it before a sample or behind it.
     pub fn unbound(&self) -> Unbound
-        ensures { (placed : List PlacedRecord) → AreReferencesOf placed self.now → IsUnboundIn placed result }
+        ensures { (m : ℤ) (placed : List PlacedRecord) → AreReferencesOf m placed self.now → IsUnboundIn m placed result }
     {
         Unbound {
             references: count_missing(&self.bound, &self.noted) as u64,

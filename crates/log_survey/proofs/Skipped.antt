@@ -1,10 +1,11 @@
 -- Counts of types, with one more type.
 use Rattle.std.proofs.Common.{◌≡◌, ℕ, ◌+◌, Bool, true, false, cond, List, [], ◌∷◌, ◌++◌, Option, Some, None, refl, sym, ap, ◌∙◌, arith}
-use Rattle.std.specs.Prelude.{◌||◌, map, nat_eq, count_by, position, slice_set, slice_index_or}
+use Rattle.std.specs.Prelude.{◌||◌, if◌then◌else◌, length, map, nat_eq, nat_lt, not, count_by, position, slice_set, slice_index_or}
 use Rattle.std.specs.Cmp.{IsEquivalence}
 use Rattle.std.specs.Cmp.Lexicographic.{options_equiv}
-use Rattle.std.specs.List.{list_any}
+use Rattle.std.specs.List.{list_any, position_or_len}
 use Rattle.std.specs.Option.{option_eq}
+use Rattle.std.proofs.lemmas.Bool.{le-ltb, ltb-false}
 use Rattle.std.proofs.lemmas.Cmp.{nat_eq_equiv}
 use Rattle.std.proofs.lemmas.List.{map-append}
 use Rattle.std.proofs.lemmas.List.Sums.{sum_by-cons, sum_by_push}
@@ -92,3 +93,18 @@ met_first kinds x counts are at =
     ∙ ap (λ c. map (count_in (kinds ++ x ∷ [])) (distinct same kinds) ++ c ∷ []) one
     ∙ sym (map-append (count_in (kinds ++ x ∷ [])) (distinct same kinds) (x ∷ []))
     ∙ ap (map (count_in (kinds ++ x ∷ []))) (sym (distinct_new same law exact kinds x any))
+
+-- what has no place is not there
+module _ {A : Type 0} (p : A → Bool) where
+  past : (xs : List A) → nat_lt (position_or_len p xs) (length xs) ≡ false → list_any p xs ≡ false
+  past [] e = refl
+  past (x ∷ xs) e = step (p x) (past xs) e where
+    step : (b : Bool) → (nat_lt (position_or_len p xs) (length xs) ≡ false → list_any p xs ≡ false) → nat_lt (if not b then 1 + position_or_len p xs else 0) (length (x ∷ xs)) ≡ false → (b || list_any p xs) ≡ false
+    step true rest k = absurd (let short = ltb-false 0 (length (x ∷ xs)) k in omega (arith, short))
+    step false rest k = rest (le-ltb (position_or_len p xs) (length xs) (let more = ltb-false (1 + position_or_len p xs) (length (x ∷ xs)) k in omega (arith, more)))
+
+  pub never_met : (xs : List A) → position p xs ≡ None → list_any p xs ≡ false
+  never_met xs h = by (nat_lt (position_or_len p xs) (length xs)) refl h where
+    by : (b : Bool) → nat_lt (position_or_len p xs) (length xs) ≡ b → (if b then Some (position_or_len p xs) else None) ≡ None → list_any p xs ≡ false
+    by true e k = absurd cc
+    by false e k = past xs e

@@ -13,7 +13,7 @@ use Rattle.log_survey.specs.declared.records.Survey.{Survey}
 pub none_taken : (survey : Survey) (references : ReferencesValue) → HasTaken [] survey references survey references
 none_taken survey references = record {
   counted = λ records h. subst (λ (rs : List WalRecord). IsSurveyOf rs survey) (sym (append-nil records)) h;
-  taken = λ before h. subst (λ (rs : List Placed). AreReferencesOf rs references) (sym (append-nil before)) h;
+  taken = λ m before h. subst (λ (rs : List Placed). AreReferencesOf m rs references) (sym (append-nil before)) h;
 }
 
 -- some records, and then others
@@ -21,5 +21,5 @@ pub taken_on : (first later : List Placed) (s t u : Survey) (r q v : ReferencesV
 taken_on first later s t u r q v a b = record {
   counted = λ records h. subst (λ (rs : List WalRecord). IsSurveyOf rs u) (append_assoc records (contents first) (contents later) ∙ ap (λ (rs : List WalRecord). records ++ rs) (sym (map-append (λ (p : Placed). p.content) first later)))
       (b.counted (records ++ contents first) (a.counted records h));
-  taken = λ before h. subst (λ (rs : List Placed). AreReferencesOf rs v) (append_assoc before first later) (b.taken (before ++ first) (a.taken before h));
+  taken = λ m before h. subst (λ (rs : List Placed). AreReferencesOf m rs v) (append_assoc before first later) (b.taken m (before ++ first) (a.taken m before h));
 }

@@ -1,6 +1,7 @@
 //! Counts of records, and the least and the greatest of times.
 
-ghost use Rattle.std.specs.Prelude.{◌≡◌, ◌+◌, ◌++◌, ◌∷◌, [], ℕ, ℤ, List, OnOk, Option, Some, map, nat_eq, position};
+ghost use Rattle.std.specs.Prelude.{◌≡◌, ◌+◌, ◌<◌, ◌^◌, ◌++◌, ◌∷◌, [], ℕ, ℤ, All, IsOk, List, OnOk, Option, Some, map, nat_eq, position, true};
+ghost use Rattle.std.specs.List.{list_any};
 ghost use Rattle.std.specs.Option.{option_eq};
 ghost use Rattle.log_survey.specs.Surveys.{AreEnds, counts_of};
 
@@ -17,7 +18,9 @@ pub struct KindCount {
 impl KindCount {
     // Counts a record with this many entries. Returns an error if there is no such number.
     pub(crate) fn add(&mut self, entries: usize) -> Result<(), AllocError>
-        ensures { OnOk result (self.new ≡ record { records = self.old.records + 1; entries = self.old.entries + entries }) }
+        ensures counted { OnOk result (self.new ≡ record { records = self.old.records + 1; entries = self.old.entries + entries }) }
+        // Nothing is allocated.
+        ensures few { self.old.records + 1 < 2 ^ 64 → self.old.entries + entries < 2 ^ 64 → IsOk result }
     {
         self.records = self.records.checked_add(1).ok_or(AllocError)?;
         self.entries = self.entries.checked_add(entries as u64).ok_or(AllocError)?;
@@ -44,7 +47,9 @@ pub(crate) fn count_skipped(
     skipped: &mut Vec<SkippedCount>,
     kind: Option<u8>,
 ) -> Result<(), AllocError>
-    ensures { (kinds : List (Option ℕ)) → skipped.old.items ≡ counts_of kinds → OnOk result (skipped.new.items ≡ counts_of (kinds ++ kind ∷ [])) }
+    ensures counted { (kinds : List (Option ℕ)) → skipped.old.items ≡ counts_of kinds → OnOk result (skipped.new.items ≡ counts_of (kinds ++ kind ∷ [])) }
+    // For a type that was met before nothing is allocated.
+    ensures few { list_any (λ count. option_eq nat_eq count.kind kind) skipped.old.items ≡ true → All (λ count. count.records + 1 < 2 ^ 64) skipped.old.items → IsOk result }
 {
     match place_of(skipped, kind) {
         Some(at) => {

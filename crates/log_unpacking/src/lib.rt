@@ -1,7 +1,7 @@
 //! The records that a file of a log stands for, of which some may be compressed by Snappy.
 //!
 //! A record is compressed as a whole, before it is split into fragments. So the fragments of a piece are joined first, and if all are marked
-//! as compressed the joined bytes are one block. Nothing here reads or writes a file.
+//! as compressed the joined bytes are one block, or there are none, and the record has no bytes. Nothing here reads or writes a file.
 #![tactic(auto)]
 
 mod fault;

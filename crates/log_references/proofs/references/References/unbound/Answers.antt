@@ -7,8 +7,8 @@ use Rattle.log_references.proofs.Notes.{counted, found_first}
 use Rattle.log_references.proofs.references.References.unbound.Goals as goal
 
 pub returns : goal.returns
-returns c = λ placed h.
-    let old = subst (λ (v : ReferencesValue). AreReferencesOf placed v) (sym c.self.view_is) h in
+returns c = λ m placed h.
+    let old = subst (λ (v : ReferencesValue). AreReferencesOf m placed v) (sym c.self.view_is) h in
     record {
       references = c.count_missing.ensures ∙ counted c.self.inside.bound c.self.inside.noted.entries ∙ ap (λ (us : List UnboundReference). length us) old.noted;
       first = c.first_missing.ensures ∙ found_first c.self.inside.bound c.self.inside.noted.entries ∙ ap (λ (us : List UnboundReference). slice_get us 0) old.noted;
