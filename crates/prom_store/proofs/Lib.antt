@@ -1,2 +1,4 @@
+mod Numbers
 mod Showing
 pub mod Reading
+pub mod Zipped

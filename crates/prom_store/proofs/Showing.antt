@@ -1,7 +1,6 @@
 -- A path, as a fault prints it, character by character.
 use Rattle.std.specs.Prelude.{◌≡◌, ℕ, ◌+◌, ◌/◌, ◌%◌, ◌<◌, ◌||◌, ◌&&◌, Bool, true, false, if◌then◌else◌, nat_le, nat_lt, List, [], ◌∷◌, ◌++◌, encode_utf8, refl}
 use Rattle.std.specs.Char.{is_ascii_control}
-use Rattle.std.specs.List.{flat_map}
 use Rattle.std.proofs.Common.{ap, arith, cond, ◌∙◌}
 use Rattle.std.proofs.Math.Utf8.{encode}
 use Rattle.std.proofs.lemmas.Bool.{lt-leb, true≢false}

@@ -2,6 +2,7 @@
 use Rattle.std.specs.Prelude.{◌≡◌, ℕ, ◌++◌, List, Option, None, Some, codes, string_bytes, ⊤}
 use Rattle.prom_store.specs.declared.fault.Fault.{Fault}
 use Rattle.prom_store.specs.declared.fault.Fault.TheVariants.{Damage, BadIndex, BadChunks, BadTombstones, BadMeta, NotMeta, CannotRead, CannotWrite, Exists, OutOfMemory}
+use Rattle.prom_store.specs.Damages.{damage_text}
 use Rattle.prom_store.specs.Shown.{shown}
 
 -- the log is damaged, or bytes of a block are not what a block has there
@@ -13,6 +14,10 @@ TellsDamage BadTombstones = ⊤
 TellsDamage BadMeta = ⊤
 TellsDamage (NotMeta _) = ⊤
 TellsDamage _ = ⊥
+
+-- nothing of the kind
+abbrev pub TellsNoDamage : Fault → Type 0
+TellsNoDamage fault = TellsDamage fault → ⊥
 
 -- what is at this path could not be read, or out of memory
 abbrev pub TellsUnread : List ℕ → Fault → Type 0
@@ -32,8 +37,9 @@ TellsTaken path (Exists told) = string_bytes told ≡ path
 TellsTaken _ OutOfMemory = ⊤
 TellsTaken _ _ = ⊥
 
--- the text of a fault that names a path, which is one line whatever the path is
+-- the text of a fault that is damage of a log, or that names a path, which is one line whatever the path is
 abbrev pub path_text : Fault → Option (List ℕ)
+path_text (Damage line) = Some (damage_text line.0)
 path_text (NotMeta path) = Some (shown (string_bytes path) ++ codes ": not a block's meta.json")
 path_text (CannotRead path reason) = Some (codes "cannot read " ++ shown (string_bytes path))
 path_text (CannotWrite path reason) = Some (codes "cannot write " ++ shown (string_bytes path))

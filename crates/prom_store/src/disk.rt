@@ -1,16 +1,17 @@
 //! The store over real files.
 
-ghost use Rattle.std.specs.Prelude.{◌≡◌, ◌+◌, ◌^◌, ◌<◌, ◌⊎◌, Ok, Err, IfErr, IfOk, IfSome, IsErr, MatchResult, ⊤, length, map, string_bytes};
+ghost use Rattle.std.specs.Prelude.{◌≡◌, ◌+◌, ◌^◌, ◌<◌, ◌⊎◌, Ok, Err, IfErr, IfOk, IsErr, MatchResult, ⊤, length, map, string_bytes};
 ghost use Rattle.std.specs.Iterator.{Drains, IsFinite};
 ghost use Rattle.std.specs.Fs.{dir_entry_name};
 ghost use Rattle.prom_store.specs.Entries.{Gives};
 
 use crate::reason::Reason;
+use crate::several::{ReadFile, read_several};
 use crate::store::{Store, StoreFault};
+use crate::whole::{read_whole, write_whole};
 use hash_seed::HashSeed;
 use std::alloc::Global;
 use std::fs::{DirEntry, File, OpenFile};
-use std::io::{ErrorKind, Read, Write};
 use std::os::unix::fs::FileExt;
 use std::random::RandomSource;
 use std::rt::Files;
@@ -46,47 +47,6 @@ impl<'a> Disk<'a, HostRuntime> {
             seed: random_seed(rt),
         }
     }
-}
-
-/// The most calls of `read` for one file. A device that never ends is refused after them.
-const MOST_READS: u64 = 4_294_967_296;
-
-// A reader that returns an error once `reads_left` calls of `read` were made.
-#[derive(Drop)]
-struct Limited<'a, R> {
-    reader: &'a mut R,
-    reads_left: u64,
-}
-
-impl<R: Read> Read for Limited<'_, R> {
-    ghost remaining = { λ l. R.remaining l.reader.now };
-
-    fn read(&mut self, buf: &mut [u8]) -> io::Result<usize> {
-        if self.reads_left == 0 {
-            return Err(io::Error::from(ErrorKind::TimedOut));
-        }
-        self.reads_left -= 1;
-        self.reader.read(buf)
-    }
-}
-
-/// Reads a reader to its end. `length` is the number of bytes that it is expected to have; it may have fewer or more. Returns an error
-/// where the reader fails, where its end does not come within `MOST_READS` calls of `read`, or where memory runs out.
-pub fn read_whole<R: Read>(
-    alloc: Global,
-    reader: &mut R,
-    length: u64,
-) -> Result<Vec<u8>, StoreFault>
-    ensures { IfOk result (λ bytes. IfSome (R.remaining reader.old) (λ rest. bytes.items ≡ rest)) }
-{
-    // one byte more than it has, so that the end is found without growing the buffer
-    let mut bytes = Vec::with_capacity(alloc, (length as usize).saturating_add(1))?;
-    let mut limited = Limited {
-        reader,
-        reads_left: MOST_READS,
-    };
-    limited.read_to_end(&mut bytes)?;
-    Ok(bytes)
 }
 
 // Returns the length of a file in bytes by its metadata, or 0 if that cannot be read.
@@ -197,119 +157,42 @@ fn check_file(host: HostRuntime, path: &str) -> Result<(), StoreFault> {
     }
 }
 
-// Reads the file at a path, in so many threads if it is large. Returns an error if what is at the path is not a file.
-fn read_file_by<R: Threads>(
-    rt: &R,
+// Reads files in the thread that it is of: a large one in so many threads.
+#[derive(Drop)]
+struct Here<'a, R> {
+    rt: &'a R,
     host: HostRuntime,
     threads: usize,
-    path: &str,
-) -> Result<Vec<u8>, StoreFault> {
-    check_file(host, path)?;
-    read_by(rt, host, threads, path)
 }
 
-// Reads the file at a path. Returns an error if what is at the path is not a file.
-fn read_file(host: HostRuntime, path: &str) -> Result<Vec<u8>, StoreFault> {
-    check_file(host, path)?;
-    let mut file = File::open(&host, path)?;
-    let length = length_of(&file);
-    read_whole(host.alloc(), &mut file, length)
-}
+impl<R: Threads> ReadFile for Here<'_, R> {
+    // no contract says what a file of the system holds
+    ghost gave = { λ _ _ _. ⊤ };
 
-// Reads the file of each path into its place, one after another.
-fn read_in_turn(host: HostRuntime, paths: &[String], files: &mut [Result<Vec<u8>, StoreFault>])
-    requires { length files.old ≡ length paths.now }
-    ensures { length files.new ≡ length paths.now }
-{
-    for place in 0..paths.len() {
-        files[place] = read_file(host, &paths[place]);
+    // what is at the path and is no file is refused
+    fn read_file(&self, path: &str) -> Result<Vec<u8>, StoreFault> {
+        check_file(self.host, path)?;
+        read_by(self.rt, self.host, self.threads, path)
     }
 }
 
-// Reads the file of each path into its place, one after another, a large one in so many threads.
-fn read_here<R: Threads>(
-    rt: &R,
+// Reads files in any thread, each in that thread alone.
+#[derive(Drop)]
+struct There {
     host: HostRuntime,
-    threads: usize,
-    paths: &[String],
-    files: &mut [Result<Vec<u8>, StoreFault>],
-)
-    requires { length files.old ≡ length paths.now }
-    ensures { length files.new ≡ length paths.now }
-{
-    for place in 0..paths.len() {
-        files[place] = read_file_by(rt, host, threads, &paths[place]);
-    }
 }
 
-// Reads the file of each path into its place, in so many readers, this thread among them. Each reads about as many as the others. This
-// thread reads the first of them, and a large one of these in `threads` threads.
-#[cycle(reading)]
-fn read_among<R: Threads>(
-    rt: &R,
-    host: HostRuntime,
-    readers: usize,
-    threads: usize,
-    paths: &[String],
-    files: &mut [Result<Vec<u8>, StoreFault>],
-)
-    requires { length files.old ≡ length paths.now }
-    ensures { length files.new ≡ length paths.now }
-{
-    if readers < 2 {
-        read_here(rt, host, threads, paths, files);
-        return;
-    }
-    let share = paths.len() - paths.len() / readers;
-    let (first, rest) = paths.split_at(share);
-    let (front, back) = files.split_at_mut(share);
-    let mut here = ||
-        requires { (1 < readers) × (length front.now ≡ length first.now) }
-        ensures { length front.exit.now ≡ length first.entry.now }
-    { read_among(rt, host, readers - 1, threads, first, front) };
-    thread::join_mut(rt, &mut || read_in_turn(host, rest, back), &mut here);
-}
+impl ReadFile for There {
+    // no contract says what a file of the system holds
+    ghost gave = { λ _ _ _. ⊤ };
 
-// What is in the place of a file that was not read yet.
-const UNREAD: StoreFault = StoreFault::Refused(Reason::Other(ErrorKind::Other));
-
-// Returns a place for each path. What is in it says that no file was read yet.
-fn places_for(
-    alloc: Global,
-    paths: &[String],
-) -> Result<Vec<Result<Vec<u8>, StoreFault>>, (usize, StoreFault)>
-    ensures places { IfOk result (λ files. length files.items ≡ length paths.now) }
-    ensures place { IfErr result (λ refused. refused.0 < length paths.now) }
-{
-    let mut files = Vec::new(alloc);
-    for place in 0..paths.len() {
-        if files.push(Err(UNREAD)).is_err() {
-            return Err((place, StoreFault::OutOfMemory));
-        }
+    // what is at the path and is no file is refused
+    fn read_file(&self, path: &str) -> Result<Vec<u8>, StoreFault> {
+        check_file(self.host, path)?;
+        let mut file = File::open(&self.host, path)?;
+        let length = length_of(&file);
+        read_whole(self.host.alloc(), &mut file, length)
     }
-    Ok(files)
-}
-
-// Collects the files that were read. Returns the place of the first that was not, and why.
-fn all_read(
-    alloc: Global,
-    files: Vec<Result<Vec<u8>, StoreFault>>,
-) -> Result<Vec<Vec<u8>>, (usize, StoreFault)>
-    ensures files { IfOk result (λ read. files.items ≡ map Ok read.items) }
-    ensures place { IfErr result (λ refused. refused.0 < length files.items) }
-{
-    let mut read = Vec::new(alloc);
-    for file in files {
-        let place = read.len();
-        let bytes = match file {
-            Ok(bytes) => bytes,
-            Err(fault) => return Err((place, fault)),
-        };
-        if read.push(bytes).is_err() {
-            return Err((place, StoreFault::OutOfMemory));
-        }
-    }
-    Ok(read)
 }
 
 impl<R: Threads> Store for Disk<'_, R> {
@@ -341,11 +224,14 @@ impl<R: Threads> Store for Disk<'_, R> {
         alloc: Global,
         paths: &[String],
     ) -> Result<Vec<Vec<u8>>, (usize, StoreFault)> {
-        let mut files = places_for(alloc, paths)?;
         let readers = paths.len().min(MOST_READERS);
-        let threads = (MOST_READERS + 1 - readers).min(MOST_PARTS);
-        read_among(self.rt, self.host, readers, threads, paths, &mut files);
-        all_read(alloc, files)
+        let here = Here {
+            rt: self.rt,
+            host: self.host,
+            threads: (MOST_READERS + 1 - readers).min(MOST_PARTS),
+        };
+        let there = There { host: self.host };
+        read_several(self.rt, alloc, &here, &there, readers, paths)
     }
 
     fn seed(&self) -> HashSeed {
@@ -368,7 +254,7 @@ impl<R: Threads> Store for Disk<'_, R> {
     }
 
     fn write(&mut self, writer: &mut File, bytes: &[u8]) -> Result<(), StoreFault> {
-        Ok(writer.write_all(bytes)?)
+        write_whole(writer, bytes)
     }
 
     fn sync_file(&mut self, writer: &mut File) -> Result<(), StoreFault> {

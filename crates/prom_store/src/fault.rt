@@ -1,6 +1,6 @@
 //! How a run can end: faults, their texts and exit statuses.
 
-ghost use Rattle.std.specs.Prelude.{◌≡◌, ◌↔◌, ◌⊎◌, None};
+ghost use Rattle.std.specs.Prelude.{◌≡◌, ◌↔◌, ◌⊎◌, None, Some, IfSome};
 ghost use Rattle.wal_log.specs.declared.plan.PlanFault.TheVariants as plan;
 ghost use Rattle.wal_log.specs.declared.checkpoint.CheckpointFault.TheVariants as checkpoint;
 ghost use Rattle.wal_log.specs.declared.input.InputFault.TheVariants as input;
@@ -10,9 +10,10 @@ ghost use Rattle.index_parts.specs.declared.fault.ReadFault.{ReadFault as IndexF
 ghost use Rattle.block_read.specs.declared.fault.BlockFault.TheVariants as block;
 ghost use Rattle.head_replay.specs.declared.fault.ReplayFault.TheVariants as replay;
 ghost use Rattle.prom_store.specs.declared.fault.Fault.TheVariants.{BadChunks, BadIndex, BadMeta, BadTombstones, BadUlid, Full, Gap, NoLog, NoPair, OutOfMemory, TooLarge, Workers};
-ghost use Rattle.prom_store.specs.Faults.{TellsDamage, TellsTaken, TellsUnread, TellsUnwritten, path_text};
+ghost use Rattle.prom_store.specs.Damages.{gap_text};
+ghost use Rattle.prom_store.specs.Faults.{TellsDamage, TellsNoDamage, TellsTaken, TellsUnread, TellsUnwritten, path_text};
 
-use crate::damage::DamageLine;
+use crate::damage::{DamageLine, FileNumber};
 use crate::reason::Reason;
 use crate::shown::ShownPath;
 use crate::store::StoreFault;
@@ -56,6 +57,8 @@ pub struct NumberGap {
 }
 
 impl fmt::Display for NumberGap {
+    ghost output = { λ gap. Some (gap_text gap.of_checkpoints gap.number gap.next) };
+
     fn fmt<W: fmt::Write>(&self, f: &mut fmt::Formatter<W>) -> fmt::Result {
         let NumberGap { number, next, .. } = *self;
         let kind = if self.of_checkpoints {
@@ -63,10 +66,11 @@ impl fmt::Display for NumberGap {
         } else {
             "segment"
         };
+        let (file, later) = (FileNumber(number), FileNumber(next));
         if number == next {
-            write!(f, "{kind} {number:08} is there twice")
+            write!(f, "{kind} {file} is there twice")
         } else {
-            write!(f, "behind {kind} {number:08} comes {next:08}")
+            write!(f, "behind {kind} {file} comes {later}")
         }
     }
 }
@@ -90,7 +94,7 @@ impl fmt::Display for Cause {
             Cause::Refused(reason) => fmt::Display::fmt(reason, f),
             Cause::Gap(gap) => fmt::Display::fmt(gap, f),
             Cause::Compressed => f.write_str(
-                "`unpack` writes such a log anew, without compression",
+                "`unpack` writes such a log anew, without compression, if Snappy compressed it",
             ),
             Cause::LeftOut(records) => write!(
                 f,
@@ -302,7 +306,7 @@ impl fmt::Debug for Fault {
 impl Error for Fault {}
 
 impl From<PlanFault> for Fault {
-    ghost from_gives = { λ e f. ((f ≡ OutOfMemory) ↔ (e ≡ plan.Memory)) × ((f ≡ Gap None) ↔ (e ≡ plan.Gap)) };
+    ghost from_gives = { λ e f. ((f ≡ OutOfMemory) ↔ (e ≡ plan.Memory)) × ((f ≡ Gap None) ↔ (e ≡ plan.Gap)) × TellsNoDamage f };
 
     fn from(fault: PlanFault) -> Fault {
         match fault {
@@ -313,7 +317,7 @@ impl From<PlanFault> for Fault {
 }
 
 impl From<ReplayFault> for Fault {
-    ghost from_gives = { λ e f. ((f ≡ Full) ↔ (e ≡ replay.Full)) × ((f ≡ OutOfMemory) ↔ (e ≡ replay.Memory)) × (e ≡ replay.Workers → f ≡ Workers) };
+    ghost from_gives = { λ e f. ((f ≡ Full) ↔ (e ≡ replay.Full)) × ((f ≡ OutOfMemory) ↔ (e ≡ replay.Memory)) × (e ≡ replay.Workers → f ≡ Workers) × TellsNoDamage f };
 
     fn from(fault: ReplayFault) -> Fault {
         match fault {
@@ -328,7 +332,7 @@ impl From<ReplayFault> for Fault {
 }
 
 impl From<InputRefused> for Fault {
-    ghost from_gives = { λ e f. ((f ≡ TooLarge) ↔ (e.fault ≡ input.TooLong)) × (e.fault ≡ input.Gap → f ≡ Gap None) };
+    ghost from_gives = { λ e f. ((f ≡ TooLarge) ↔ (e.fault ≡ input.TooLong)) × (e.fault ≡ input.Gap → f ≡ Gap None) × TellsNoDamage f };
 
     fn from(refused: InputRefused) -> Fault {
         match refused.fault {

@@ -8,11 +8,13 @@ mod line;
 mod paths;
 mod reason;
 mod requests;
+mod several;
 mod shown;
 mod store;
+mod whole;
 
-pub use damage::{DamageLine, kind_of_file};
-pub use disk::{Disk, names_of, read_whole};
+pub use damage::{DamageLine, FileNumber, kind_of_file};
+pub use disk::{Disk, names_of};
 pub use fault::{Cause, Fault, NumberGap, Status};
 pub use line::LineFault;
 pub use paths::join;
@@ -21,4 +23,6 @@ pub use requests::{
     AnalyzeRequest, AppendRequest, BlockRequest, CheckpointRequest, CutRequest, DumpRequest,
     InspectRequest, Request, UnpackRequest,
 };
+pub use several::{ReadFile, read_several};
 pub use store::{Store, StoreFault};
+pub use whole::{read_whole, write_whole};

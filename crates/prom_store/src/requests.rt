@@ -69,6 +69,8 @@ pub struct InspectRequest<'a> {
     pub dir: &'a str,
     /// Whether it is printed as one JSON document.
     pub json: bool,
+    /// The least valid time, in milliseconds: samples before it are not looked at for references that nothing binds.
+    pub min_valid: i64,
 }
 
 /// A request to print what makes the log in a directory large.

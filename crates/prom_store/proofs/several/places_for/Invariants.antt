@@ -1,5 +1,5 @@
 use Rattle.std.proofs.Common.{◌≡◌, length}
-use Rattle.prom_store.proofs.disk.places_for.Given as goal
+use Rattle.prom_store.proofs.several.places_for.Given as goal
 
 -- one for each path so far
 abbrev pub invariant-loop-place : goal.invariant-loop-place

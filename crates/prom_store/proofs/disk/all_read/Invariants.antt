@@ -1,6 +1,0 @@
-use Rattle.std.proofs.Common.{◌≡◌, Ok, map}
-use Rattle.prom_store.proofs.disk.all_read.Given as goal
-
--- all files so far were read, and are these
-abbrev pub invariant-loop-file : goal.invariant-loop-file
-invariant-loop-file l = l.yielded ≡ map Ok l.read.items
