@@ -19,6 +19,7 @@ pub mod Numbers
 pub mod OfLog
 pub mod Outlasts
 pub mod Planned
+pub mod Records
 pub mod Replays
 pub mod RowLaws
 pub mod SegmentLemmas

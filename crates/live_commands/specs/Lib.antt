@@ -1,5 +1,6 @@
 pub mod Again
 pub mod Checkpoints
+pub mod CheckpointTexts
 pub mod Crashes
 pub mod Logs
 pub mod RowTexts
