@@ -1,3 +1,4 @@
 pub mod Folders
+pub mod Free
 pub mod Less
 pub mod Unlimited

@@ -1,9 +1,9 @@
 -- The folder of a block, and what a crash leaves where it is written.
-use Rattle.std.specs.Prelude.{◌≡◌, ◌⊎◌, ℕ, ◌+◌, List, [], ◌∷◌, ◌++◌, Option, codes}
+use Rattle.std.specs.Prelude.{◌≡◌, ◌⊎◌, ℕ, ◌+◌, All, List, [], ◌∷◌, ◌++◌, Option, codes}
 use Rattle.std.specs.Path.{path_join}
 use Rattle.prom_store.specs.Calls.{Call}
 use Rattle.prom_store.specs.Found.{Found}
-use Rattle.prom_store.specs.Views.{view_of}
+use Rattle.prom_store.specs.Views.{View, view_of}
 use Rattle.prom_store.specs.declared.requests.BlockRequest.{BlockRequest}
 use Rattle.prom_store.specs.declared.requests.BlockRequest.TheVariants as asked
 use Rattle.prom_store.specs.declared.requests.CutRequest.{CutRequest}
@@ -49,16 +49,22 @@ LeavesBlock out name block =
     let folder = unfinished_of path in
     LeavesFolder path folder (chunks_in folder ∷ []) (block_files folder (chunks_in folder) block)
 
--- A block was written, or the call failed before.
-abbrev pub WritesBlock : {S : Type 0} → (S → List Call → S → Type 0) → S → List ℕ → List ℕ → Block → Type 0 → S → Type 0
-WritesBlock did old out name block WentWell new = ((new ≡ old) × (WentWell → ⊥)) ⊎ IsCrashSafe did old (LeavesOldOrBlock out name block) (LeavesBlock out name block) WentWell new
+-- nothing in the directory has this name
+abbrev pub IsFreeIn : View → List ℕ → List ℕ → Type 0
+IsFreeIn view dir name = (names : List (List ℕ)) × view.names dir names × All (λ (other : List ℕ). other ≡ name → ⊥) names
+
+-- A block was written where nothing had its name, or the call failed before.
+abbrev pub WritesBlock : {S : Type 0} → (S → List Call → S → Type 0) → (S → List ℕ → Found → Type 0) → S → List ℕ → List ℕ → Block → Type 0 → S → Type 0
+WritesBlock did holds old out name block WentWell new =
+    ((new ≡ old) × (WentWell → ⊥))
+    ⊎ (IsFreeIn (view_of (holds old)) out name × IsCrashSafe did old (LeavesOldOrBlock out name block) (LeavesBlock out name block) WentWell new)
 
 -- The block of the log in the directory was written, or the call failed before.
 abbrev pub Cuts : {S : Type 0} → (S → List Call → S → Type 0) → (S → List ℕ → Found → Type 0) → S → CutRequest → Type 0 → S → Type 0
 Cuts did holds old request WentWell new =
     ((new ≡ old) × (WentWell → ⊥))
     ⊎ ((log : Files) × (block : Block) × IsLogIn (view_of (holds old)) request.dir.now log × IsBlockOfLog log request.options.min_valid request.hour request.ulid.now block
-    × WritesBlock did old request.out.now request.ulid.now block WentWell new)
+    × WritesBlock did holds old request.out.now request.ulid.now block WentWell new)
 
 -- A request to cut writes a block. The other requests change nothing.
 abbrev pub CarriesOut : {S : Type 0} → (S → List Call → S → Type 0) → (S → List ℕ → Found → Type 0) → S → BlockRequest → Type 0 → S → Type 0

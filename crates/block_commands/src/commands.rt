@@ -1,7 +1,9 @@
 //! The commands about blocks.
 
-ghost use Rattle.std.specs.Prelude.{◌≡◌, IsOk};
+ghost use Rattle.std.specs.Prelude.{◌≡◌, IsOk, MatchResult};
+ghost use Rattle.prom_store.specs.Views.{view_of};
 ghost use Rattle.block_commands.specs.Folders.{CarriesOut};
+ghost use Rattle.block_commands.specs.Printed.{Prints, Refuses};
 
 use crate::blocks::block;
 use crate::cutting::cut_hour;
@@ -20,6 +22,7 @@ fn execute<R: Threads + Wait + Sync, S: Store, P: Progress + Sync>(
     request: BlockRequest<'_>,
 ) -> Result<Answer, Fault>
     ensures crash { CarriesOut S.did S.holds store.old request.entry (IsOk result) store.new }
+    ensures printed { MatchResult result (Prints (view_of (S.holds store.old)) request.entry) (Refuses request.entry) }
 {
     match request {
         BlockRequest::Ranges { dir, options } => ranges(rt, alloc, store, progress, dir, &options),
@@ -38,6 +41,7 @@ pub fn carry_out_block<R: Threads + Wait + Sync, S: Store, P: Progress + Sync>(
     request: BlockRequest<'_>,
 ) -> Answer
     ensures crash { CarriesOut S.did S.holds store.old request.entry (result.status ≡ Status.Done) store.new }
+    ensures printed { Prints (view_of (S.holds store.old)) request.entry result }
 {
     match execute(rt, alloc, store, progress, request) {
         Ok(answer) => answer,

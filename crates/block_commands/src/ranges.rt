@@ -1,11 +1,17 @@
 //! The command `ranges`: the hours of a log that can be cut.
 
-ghost use Rattle.std.specs.Prelude.{◌≡◌, false};
+ghost use Rattle.std.specs.Prelude.{◌≡◌, ◌↔◌, ℤ, Contains, List, MatchResult, false};
+ghost use Rattle.std.specs.List.{flat_map};
+ghost use Rattle.block_cut.specs.Ranges.{Ascends, IsRange};
+ghost use Rattle.prom_store.specs.Faults.{TellsNoDamage};
+ghost use Rattle.prom_store.specs.Views.{view_of};
+ghost use Rattle.prom_commands.specs.Answers.{TellsUpTo};
+ghost use Rattle.block_commands.specs.Printed.{IsRangesText, range_line};
 
 use crate::report::ranges_text;
 use block_cut::full_ranges;
-use head_replay::{Options, Replayed, replay};
-use prom_commands::{Answer, Progress, extent_of, read_log};
+use head_replay::{Options, Replayed};
+use prom_commands::{Answer, Progress, replay_in};
 use prom_store::{Fault, Store};
 use std::alloc::Global;
 use std::sync::Wait;
@@ -14,6 +20,9 @@ use std::thread::Threads;
 // Prints the full hours of a replayed log, one a line.
 fn listed(alloc: Global, replayed: &Replayed) -> Result<Answer, Fault>
     requires { replayed.now.head.failed ≡ false }
+    ensures { MatchResult result
+        (TellsUpTo (λ damage text. (replayed.now.damage ≡ damage)
+        × (hours : List ℤ) × Ascends hours × ((k : ℤ) → Contains hours k ↔ IsRange k replayed.now.head.content) × (text ≡ flat_map range_line hours))) TellsNoDamage }
 {
     let hours = full_ranges(alloc, &replayed.head)?;
     let text = ranges_text(alloc, &hours)?;
@@ -28,10 +37,9 @@ pub fn ranges<R: Threads + Wait + Sync, S: Store, P: Progress + Sync>(
     progress: &P,
     dir: &str,
     options: &Options,
-) -> Result<Answer, Fault> {
-    let input = read_log(alloc, store, dir)?;
-    progress.begin(&extent_of(&input, options));
-    let replayed = replay(rt, alloc, &input, options, progress);
-    progress.end();
-    listed(alloc, &replayed?)
+) -> Result<Answer, Fault>
+    ensures { MatchResult result (TellsUpTo (IsRangesText (view_of (S.holds store.now)) dir.now options.now.min_valid)) TellsNoDamage }
+{
+    let replayed = replay_in(rt, alloc, store, progress, dir, options)?;
+    listed(alloc, &replayed)
 }

@@ -1,16 +1,29 @@
 //! The texts that the commands about blocks print.
 
+ghost use Rattle.std.specs.Prelude.{◌≡◌, ◌++◌, IfOk, OnOk, string_bytes};
+ghost use Rattle.std.specs.List.{flat_map};
+ghost use Rattle.block_commands.specs.Printed.{range_line};
+
 use block_read::BlockRows;
 use head_column::Hour;
 use prom_figures::{BlockCounts, counts_of, ends};
 use std::alloc::{AllocError, Global};
 
+// Appends the line of an hour: its number, its first millisecond and the first one after it.
+fn push_range(text: &mut String, hour: Hour) -> Result<(), AllocError>
+    ensures { OnOk result (string_bytes text.new ≡ string_bytes text.old ++ range_line hour) }
+{
+    let (number, (start, end)) = (hour.k(), ends(hour));
+    writeln!(text, "{number} {start} {end}")
+}
+
 /// Returns a line for each hour: its number, its first millisecond and the first one after it.
-pub fn ranges_text(alloc: Global, hours: &[Hour]) -> Result<String, AllocError> {
+pub fn ranges_text(alloc: Global, hours: &[Hour]) -> Result<String, AllocError>
+    ensures { IfOk result (λ text. string_bytes text ≡ flat_map range_line hours.now) }
+{
     let mut text = String::new(alloc);
     for hour in hours {
-        let (start, end) = ends(*hour);
-        writeln!(text, "{} {start} {end}", hour.k())?;
+        push_range(&mut text, *hour)?;
     }
     Ok(text)
 }

@@ -1,2 +1,5 @@
+pub mod Answers
 pub mod Directory
+pub mod Printed
+pub mod Replays
 pub mod Spellings

@@ -7,6 +7,7 @@ mod heads;
 mod meter;
 mod planning;
 mod progress;
+mod replaying;
 mod report;
 mod spelling;
 
@@ -17,4 +18,6 @@ pub use meter::Meter;
 pub use planning::{plan_checkpoint, plan_log};
 pub use progress::{Progress, extent_of};
 pub use prom_store::Request;
+pub use replaying::{replay_in, slots_of, tally_in};
+pub use report::push_numbers;
 pub use spelling::{Pair, pair_of, push_pair, push_spelled, read_pair};

@@ -1,7 +1,8 @@
 //! Spelling a label's bytes as text, and reading that text.
 
-ghost use Rattle.std.specs.Prelude.{◌≡◌, ◌<◌, ◌≤◌, ◌/◌, ◌%◌, ◌∷◌, ◌++◌, [], IfOk, IfSome, OnOk, length, string_bytes, take};
+ghost use Rattle.std.specs.Prelude.{◌≡◌, ◌<◌, ◌≤◌, ◌/◌, ◌%◌, ◌∷◌, ◌++◌, [], IfOk, IfSome, MatchResult, OnOk, length, string_bytes, take};
 ghost use Rattle.std.specs.Option.{option_map};
+ghost use Rattle.prom_store.specs.Faults.{TellsNoDamage};
 ghost use Rattle.prom_commands.specs.Spellings.{SpellsPair, byte_spelling, digit_of, is_bare, pair_text, spelled};
 
 use prom_store::Fault;
@@ -137,7 +138,7 @@ pub fn read_pair(alloc: Global, word: &str) -> Result<Option<Pair>, AllocError>
 
 // Reads a label that is spelled as labels are printed. Returns `NoPair` if the word is no such label.
 fn pair_in(alloc: Global, word: &str) -> Result<Pair, Fault>
-    ensures { IfOk result (λ pair. word.now ≡ pair_text pair.0.items pair.1.items) }
+    ensures { MatchResult result (λ pair. word.now ≡ pair_text pair.0.items pair.1.items) TellsNoDamage }
 {
     match read_pair(alloc, word)? {
         Some(pair) => Ok(pair),
@@ -147,7 +148,7 @@ fn pair_in(alloc: Global, word: &str) -> Result<Pair, Fault>
 
 /// Reads the label of an option, spelled as labels are printed, if a word was given. Returns `NoPair` if the word is no such label.
 pub fn pair_of(alloc: Global, word: Option<&str>) -> Result<Option<Pair>, Fault>
-    ensures { IfOk result (λ pair. SpellsPair (option_map (λ w. w.now) word.entry) (option_map (λ p. (p.0.items, p.1.items)) pair)) }
+    ensures { MatchResult result (λ pair. SpellsPair (option_map (λ w. w.now) word.entry) (option_map (λ p. (p.0.items, p.1.items)) pair)) TellsNoDamage }
 {
     match word {
         Some(word) => Ok(Some(pair_in(alloc, word)?)),

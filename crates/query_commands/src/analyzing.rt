@@ -3,11 +3,10 @@
 ghost use Rattle.std.specs.Prelude.{◌≡◌, false};
 
 use crate::analysis::{Layout, analysis_text};
-use crate::replaying::replay_in;
 use head_core::Head;
 use head_ranks::{label_counts, metrics, name_counts, totals};
 use head_replay::Replayed;
-use prom_commands::{Answer, Progress};
+use prom_commands::{Answer, Progress, replay_in};
 use prom_store::{AnalyzeRequest, Fault, Store};
 use std::alloc::{AllocError, Global};
 use std::sync::Wait;

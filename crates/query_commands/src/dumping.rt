@@ -1,33 +1,21 @@
 //! The command `dump`, over any store.
 
-ghost use Rattle.std.specs.Prelude.{◌≡◌, IfOk, false, string_bytes};
+ghost use Rattle.std.specs.Prelude.{◌≡◌, MatchResult, false};
 ghost use Rattle.std.specs.Option.{option_map};
-ghost use Rattle.head_core.specs.Heads.{AreSlots};
+ghost use Rattle.prom_store.specs.Faults.{TellsNoDamage};
 ghost use Rattle.prom_store.specs.Views.{view_of};
+ghost use Rattle.prom_commands.specs.Answers.{TellsUpTo};
+ghost use Rattle.prom_commands.specs.Replays.{slots_of};
 ghost use Rattle.head_dump.specs.Dumps.{IsDump};
-ghost use Rattle.query_commands.specs.Requests.{IsDumpIn, slots_of};
+ghost use Rattle.query_commands.specs.Requests.{IsDumpIn};
 
-use crate::replaying::replay_in;
-use head_core::{Head, Slot};
 use head_dump::{Selection, dump_text};
 use head_replay::Replayed;
-use prom_commands::{Answer, Pair, Progress, pair_of};
-use prom_store::{DumpRequest, Fault, Status, Store};
+use prom_commands::{Answer, Pair, Progress, pair_of, replay_in, slots_of};
+use prom_store::{DumpRequest, Fault, Store};
 use std::alloc::Global;
 use std::sync::Wait;
 use std::thread::Threads;
-
-// Returns the slots of the series that have this label, or of all series.
-fn slots_of<'a>(head: &'a Head, pair: &Option<Pair>) -> &'a [Slot]
-    requires { head.now.failed ≡ false }
-    ensures slots { result.now ≡ slots_of head.now.content (option_map (λ p. (p.0.items, p.1.items)) pair.now) }
-    ensures within { AreSlots head.now.content result.now }
-{
-    match pair {
-        Some((name, value)) => head.select(name, value),
-        None => head.all(),
-    }
-}
 
 // Prints the samples that are selected of a replayed log, of the series that have this label, one a line.
 fn dumped(
@@ -38,9 +26,9 @@ fn dumped(
     floats: bool,
 ) -> Result<Answer, Fault>
     requires { replayed.now.head.failed ≡ false }
-    ensures dump { IfOk result (λ answer. IsDump floats selection.now replayed.now.head.content
-        (slots_of replayed.now.head.content (option_map (λ p. (p.0.items, p.1.items)) pair.now)) (string_bytes answer.printed)) }
-    ensures done { IfOk result (λ answer. answer.status ≡ Status.Done → replayed.now.damage ≡ None) }
+    ensures { MatchResult result
+        (TellsUpTo (λ damage text. (replayed.now.damage ≡ damage)
+        × IsDump floats selection.now replayed.now.head.content (slots_of replayed.now.head.content (option_map (λ p. (p.0.items, p.1.items)) pair.now)) text)) TellsNoDamage }
 {
     let head = &replayed.head;
     let text = dump_text(alloc, head, slots_of(head, pair), selection, floats)?;
@@ -65,9 +53,8 @@ fn execute<R: Threads + Wait + Sync, S: Store, P: Progress + Sync>(
     progress: &P,
     request: DumpRequest<'_>,
 ) -> Result<Answer, Fault>
-    ensures { IfOk result (λ answer. answer.status ≡ Status.Done → IsDumpIn (view_of (S.holds store.now)) request.entry.dir.now
-        (option_map (λ w. w.now) request.entry.pair) request.entry.options.min_valid (record { from = request.entry.from; to = request.entry.to; with_hidden = request.entry.hidden }) request.entry.floats None
-        (string_bytes answer.printed)) }
+    ensures { MatchResult result (TellsUpTo (IsDumpIn (view_of (S.holds store.now)) request.entry.dir.now (option_map (λ w. w.now) request.entry.pair) request.entry.options.min_valid
+        (record { from = request.entry.from; to = request.entry.to; with_hidden = request.entry.hidden }) request.entry.floats)) TellsNoDamage }
 {
     let pair = pair_of(alloc, request.pair)?;
     let selection = selection_of(&request);
@@ -84,9 +71,8 @@ pub fn carry_out_dump<R: Threads + Wait + Sync, S: Store, P: Progress + Sync>(
     progress: &P,
     request: DumpRequest<'_>,
 ) -> Answer
-    ensures { result.status ≡ Status.Done → IsDumpIn (view_of (S.holds store.now)) request.entry.dir.now
-        (option_map (λ w. w.now) request.entry.pair) request.entry.options.min_valid (record { from = request.entry.from; to = request.entry.to; with_hidden = request.entry.hidden }) request.entry.floats None
-        (string_bytes result.printed) }
+    ensures { TellsUpTo (IsDumpIn (view_of (S.holds store.now)) request.entry.dir.now (option_map (λ w. w.now) request.entry.pair) request.entry.options.min_valid
+        (record { from = request.entry.from; to = request.entry.to; with_hidden = request.entry.hidden }) request.entry.floats) result }
 {
     match execute(rt, alloc, store, progress, request) {
         Ok(answer) => answer,

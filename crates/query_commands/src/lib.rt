@@ -5,7 +5,6 @@ mod analysis;
 mod analyzing;
 mod bars;
 mod dumping;
-mod replaying;
 
 pub use analyzing::carry_out_analyze;
 pub use dumping::carry_out_dump;

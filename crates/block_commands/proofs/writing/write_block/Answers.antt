@@ -1,8 +1,9 @@
-use Rattle.std.proofs.Common.{◌∙◌, ap, map}
+use Rattle.std.proofs.Common.{◌∙◌, ap, inr, map, rules, subst}
 use Rattle.std.specs.Prelude.{codes}
 use Rattle.std.specs.Path.{path_join}
 use Rattle.prom_files.specs.Folders.{file_at}
-use Rattle.block_commands.specs.Folders.{block_files}
+use Rattle.prom_store.specs.Views.{view_of}
+use Rattle.block_commands.specs.Folders.{IsFreeIn, block_files}
 use Rattle.block_commands.proofs.Folders.{block_inside, ulid_is_name}
 use Rattle.block_commands.proofs.writing.write_block.Goals as goal
 
@@ -17,3 +18,7 @@ write_new_folder-requires g c =
       inside = block_inside folder _ block _ (c.in_ok-chunks.ensures ∙ ap (λ f. path_join f (codes "chunks")) c.unfinished.ensures.path)
           (ap (map file_at) c.deref-2.ensures.value ∙ c.in_ok-files.ensures ∙ ap (λ f. block_files f c.deref.result.now block) c.unfinished-2.ensures.path ∙ ap (λ d. block_files folder d block) c.deref.ensures);
     }
+
+pub returns : goal.returns
+returns g c =
+    record { crash = inr (subst (λ at. IsFreeIn (view_of (g.S.Store.holds c.args.store.now)) at.parent c.args.name.now) c.in_ok-target.ensures c.in_ok-check_free.ensures, search rules) }

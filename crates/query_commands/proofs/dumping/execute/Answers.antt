@@ -1,11 +1,18 @@
-use Rattle.std.proofs.Common.{◌≡◌, string_bytes}
+use Rattle.std.proofs.Common.{subst, sym}
+use Rattle.prom_store.specs.Faults.{TellsNoDamage}
 use Rattle.prom_store.specs.Views.{view_of}
-use Rattle.prom_store.specs.declared.fault.Status.TheVariants.{Done}
+use Rattle.prom_commands.proofs.Told.{told_err}
 use Rattle.query_commands.proofs.Requested.{dumped_in}
 use Rattle.query_commands.proofs.dumping.execute.Goals as goal
 
+pub returns-in_err-pair : goal.returns-in_err-pair
+returns-in_err-pair g c = told_err _ _ c.from_residual.result c.from_residual.ensures.1 (λ fault is. subst TellsNoDamage (sym is) c.in_err-pair.ensures)
+
+pub returns-in_err-replayed : goal.returns-in_err-replayed
+returns-in_err-replayed g c = told_err _ _ c.from_residual-in_err-replayed.result c.from_residual-in_err-replayed.ensures.1 (λ fault is. subst TellsNoDamage (sym is) c.in_err-replayed.ensures.undamaged)
+
 pub returns : goal.returns
 returns g c =
-    dumped_in c.dumped.result (λ a. string_bytes a.printed) (λ a. a.status ≡ Done) (view_of (g.S.Store.holds c.args.store.now)) c.args.request.dir.now _ c.args.request.options.min_valid
+    dumped_in c.dumped.result TellsNoDamage (view_of (g.S.Store.holds c.args.store.now)) c.args.request.dir.now _ c.args.request.options.min_valid
     c.selection_of-selection.result _ c.args.request.floats c.in_ok-replayed.replayed.damage c.in_ok-replayed.replayed.head.content _ c.selection_of-selection.ensures
-    c.in_ok-pair.ensures c.in_ok-replayed.ensures.content c.dumped.ensures.dump c.dumped.ensures.done
+    c.in_ok-pair.ensures c.in_ok-replayed.ensures.content c.dumped.ensures
