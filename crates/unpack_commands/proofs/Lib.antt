@@ -1,3 +1,4 @@
+pub mod Endings
 pub mod Inside
 pub mod Log
 pub mod LogNames

@@ -12,7 +12,7 @@ use Rattle.prom_store.specs.declared.requests.UnpackRequest.{UnpackRequest}
 use Rattle.unpack_commands.specs.declared.planned.PlannedCheckpoint.{PlannedCheckpoint}
 use Rattle.unpack_commands.specs.declared.planned.PlannedLog.{PlannedLog}
 use Rattle.unpack_commands.specs.declared.reading.FileDamage.{FileDamage}
-use Rattle.unpack_commands.specs.Folders.{IsOut, Unpacks, WritesUnpacked}
+use Rattle.unpack_commands.specs.Folders.{Ending, IsOut, Unpacks, WritesUnpacked, failing}
 use Rattle.unpack_commands.specs.Logs.{AreUnpackedIn, IsUnpackedCheckpoint, IsUnpackedLogIn, IsUnpackedPlan, seen_since}
 use Rattle.unpack_commands.specs.Steps.{AreUnpackedOf, IsUnpackedFrom, UnpacksInto, with_files}
 use Rattle.prom_files.proofs.Safety.{for_less}
@@ -45,24 +45,24 @@ module _ (view : View) (log : PlannedLog) (c : Option Checkpoint) (segments : Li
     segments_are = from.segments_are;
   }
 
-module _ {S : Type 0} (did : S → List Call → S → Type 0) (old : S) (path : List ℕ) (P Q : Option Checkpoint → List Segment → Option FileDamage → Type 0) (more : (c : Option Checkpoint) (s : List Segment) (d : Option FileDamage) → P c s d → Q c s d) (through_damage : Bool) (W : Type 0) (new : S) where
-  pub writes_weaker : WritesUnpacked did old path P through_damage W new → WritesUnpacked did old path Q through_damage W new
-  writes_weaker (inl (c, s, d, is, whole, unasked, wrote)) = inl (c, s, d, more c s d is, whole, unasked, wrote)
+module _ {S : Type 0} (did : S → List Call → S → Type 0) (old : S) (path : List ℕ) (P Q : Option Checkpoint → List Segment → Option FileDamage → Type 0) (more : (c : Option Checkpoint) (s : List Segment) (d : Option FileDamage) → P c s d → Q c s d) (through_damage : Bool) (E : Ending) (new : S) where
+  pub writes_weaker : WritesUnpacked did old path P through_damage E new → WritesUnpacked did old path Q through_damage E new
+  writes_weaker (inl (c, s, d, is, tells, unasked, wrote)) = inl (c, s, d, more c s d is, tells, unasked, wrote)
   writes_weaker (inr up) = inr up
 
-  pub into_weaker : UnpacksInto did old path P through_damage W new → UnpacksInto did old path Q through_damage W new
-  into_weaker (inl none) = inl none
+  pub into_weaker : UnpacksInto did old path P through_damage E new → UnpacksInto did old path Q through_damage E new
+  into_weaker (inl (same, fails, told)) = inl (same, fails, λ is. let found = told is in (found.0, found.1, found.2, more found.0 found.1 (Some found.2) found.3, found.4))
   into_weaker (inr writes) = inr (writes_weaker writes)
 
 module _ {S : Type 0} (did : S → List Call → S → Type 0) (holds : S → List ℕ → Found → Type 0) (old : S) (request : UnpackRequest) (new : S) where
   -- with the path that it was to be written to
-  pub unpacks_out : (path : List ℕ) (W : Type 0) → IsOut request.out.now path → UnpacksInto did old path (IsUnpackedLogIn (seen_since did holds old) request.dir.now) request.through_damage W new → Unpacks did holds old request W new
-  unpacks_out path W out (inl none) = inl none
-  unpacks_out path W out (inr writes) = inr (path, out, writes)
+  pub unpacks_out : (path : List ℕ) (E : Ending) → IsOut request.out.now path → UnpacksInto did old path (IsUnpackedLogIn (seen_since did holds old) request.dir.now) request.through_damage E new → Unpacks did holds old request E new
+  unpacks_out path E out (inl none) = inl none
+  unpacks_out path E out (inr writes) = inr (path, out, writes)
 
-  -- less is known of whether all went well
-  pub unpacks_less : (W V : Type 0) → (V → W) → Unpacks did holds old request W new → Unpacks did holds old request V new
-  unpacks_less W V less (inl (same, fails)) = inl (same, λ well. fails (less well))
-  unpacks_less W V less (inr (path, out, inl (c, s, d, is, whole, unasked, wrote))) =
-      inr (path, out, inl (c, s, d, is, (λ well. whole (less well)), unasked, for_less did old (LeavesOldOrLog path c s) (LeavesLog path c s) new V W less wrote))
-  unpacks_less W V less (inr (path, out, inr (up, fails))) = inr (path, out, inr (up, λ well. fails (less well)))
+  -- of a run that failed nothing is known
+  pub unpacks_failed : (E : Ending) → (E.told → ⊥) → (E.well → ⊥) → ((damage : Option FileDamage) → E.tells damage) → Unpacks did holds old request failing new → Unpacks did holds old request E new
+  unpacks_failed E untold fails tells (inl (same, failed, told)) = inl (same, fails, λ is. absurd (untold is))
+  unpacks_failed E untold fails tells (inr (path, out, inl (c, s, d, is, told, unasked, wrote))) =
+      inr (path, out, inl (c, s, d, is, tells d, unasked, for_less did old (LeavesOldOrLog path c s) (LeavesLog path c s) new E.well ⊥ fails wrote))
+  unpacks_failed E untold fails tells (inr (path, out, inr (up, told, failed))) = inr (path, out, inr (up, untold, fails))

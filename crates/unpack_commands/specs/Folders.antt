@@ -1,5 +1,5 @@
 -- The folder of an unpacked log, and what a crash leaves where it is written.
-use Rattle.std.specs.Prelude.{◌≡◌, ◌⊎◌, ℕ, Bool, false, List, [], ◌∷◌, ◌++◌, Option, None, Some, codes, map}
+use Rattle.std.specs.Prelude.{◌≡◌, ◌⊎◌, ℕ, Bool, true, false, List, [], ◌∷◌, ◌++◌, Option, None, Some, codes, map}
 use Rattle.std.specs.Path.{path_file_name, path_join, path_parent}
 use Rattle.wal_log.specs.declared.input.Checkpoint.{Checkpoint}
 use Rattle.wal_log.specs.declared.input.Segment.{Segment}
@@ -11,8 +11,11 @@ use Rattle.prom_files.specs.Crashes.{IsCrashSafe}
 use Rattle.prom_files.specs.Disk.{File, Standing}
 use Rattle.prom_files.specs.Folders.{FileAt, LeavesFolder, LeavesOld, LeavesOldOrFolder}
 use Rattle.prom_files.specs.Targets.{unfinished_of, zero_filled}
+use Rattle.prom_store.specs.declared.fault.Status.TheVariants.{Damaged, Done}
+use Rattle.prom_commands.specs.declared.commands.Answer.{Answer}
 use Rattle.unpack_commands.specs.declared.reading.FileDamage.{FileDamage}
 use Rattle.unpack_commands.specs.Logs.{IsUnpackedLogIn, seen_since}
+use Rattle.unpack_commands.specs.Told.{TellsUnpacked}
 
 -- files in a folder, each under its number
 abbrev pub files_in : List ℕ → List Segment → List FileAt
@@ -80,21 +83,43 @@ WritesLog did old path checkpoint segments = IsCrashSafe did old (LeavesOldOrLog
 abbrev pub GivesUpLog : {S : Type 0} → (S → List Call → S → Type 0) → S → List ℕ → S → Type 0
 GivesUpLog did old path new = (checkpoint : Option Checkpoint) × (segments : List Segment) × IsCrashSafe did old (LeavesOldBesideLog path checkpoint segments) (LeavesOldBesideLog path checkpoint segments) ⊥ new
 
--- A whole log, as it was unpacked up to this damage, was written into a new folder at the path. There is no damage if all went well, or if
--- nothing is to be written of a damaged log. Or the log was given up, and not all went well.
-abbrev pub WritesUnpacked : {S : Type 0} → (S → List Call → S → Type 0) → S → List ℕ → (Option Checkpoint → List Segment → Option FileDamage → Type 0) → Bool → Type 0 → S → Type 0
-WritesUnpacked did old path IsLog through_damage WentWell new =
-    ((checkpoint : Option Checkpoint) × (segments : List Segment) × (damage : Option FileDamage) × IsLog checkpoint segments damage
-    × (WentWell → damage ≡ None) × (through_damage ≡ false → damage ≡ None) × WritesLog did old path checkpoint segments WentWell new)
-    ⊎ (GivesUpLog did old path new × (WentWell → ⊥))
+-- How a run of `unpack` ends: what it tells of the damage up to which a log was unpacked, whether it tells of one at all, and whether it went
+-- well.
+pub record Ending : Type 1 where
+  pub tells : Option FileDamage → Type 0
+  pub told : Type 0
+  pub well : Type 0
 
--- Nothing was done, and not all went well.
-abbrev pub DoesNothing : {S : Type 0} → S → Type 0 → S → Type 0
-DoesNothing old WentWell new = (new ≡ old) × (WentWell → ⊥)
+-- A run that failed.
+abbrev pub failing : Ending
+failing = record { tells = λ damage. Unit {0}; told = ⊥; well = ⊥ }
+
+-- A run with this answer. Unless it reports a fault, it tells of the log. It went well if the status is Done, or Damaged where what is before
+-- the damage is wanted.
+abbrev pub ending_of : Bool → Answer → Ending
+ending_of through_damage answer = record {
+  tells = λ damage. answer.fault ≡ None → TellsUnpacked damage answer;
+  told = answer.fault ≡ None;
+  well = (answer.fault ≡ None) × ((answer.status ≡ Done) ⊎ ((answer.status ≡ Damaged) × (through_damage ≡ true)));
+}
+
+-- A whole log, as it was unpacked up to this damage, was written into a new folder at the path. There is no damage if nothing is to be
+-- written of a damaged log. Or the log was given up, and not all went well.
+abbrev pub WritesUnpacked : {S : Type 0} → (S → List Call → S → Type 0) → S → List ℕ → (Option Checkpoint → List Segment → Option FileDamage → Type 0) → Bool → Ending → S → Type 0
+WritesUnpacked did old path IsLog through_damage end new =
+    ((checkpoint : Option Checkpoint) × (segments : List Segment) × (damage : Option FileDamage) × IsLog checkpoint segments damage
+    × end.tells damage × (through_damage ≡ false → damage ≡ None) × WritesLog did old path checkpoint segments end.well new)
+    ⊎ (GivesUpLog did old path new × (end.told → ⊥) × (end.well → ⊥))
+
+-- Nothing was done, and not all went well. If the run tells of the log, it is damaged, and this is its damage.
+abbrev pub DoesNothing : {S : Type 0} → S → (Option Checkpoint → List Segment → Option FileDamage → Type 0) → Ending → S → Type 0
+DoesNothing old IsLog end new =
+    (new ≡ old) × (end.well → ⊥)
+    × (end.told → (checkpoint : Option Checkpoint) × (segments : List Segment) × (bad : FileDamage) × IsLog checkpoint segments (Some bad) × end.tells (Some bad))
 
 -- The log in the directory was unpacked into a new folder at the path `out`, or was given up, or nothing was done. The names of its files
 -- are those of before, and each file is what the store held at some moment of the call.
-abbrev pub Unpacks : {S : Type 0} → (S → List Call → S → Type 0) → (S → List ℕ → Found → Type 0) → S → UnpackRequest → Type 0 → S → Type 0
-Unpacks did holds old request WentWell new =
-    DoesNothing old WentWell new
-    ⊎ ((path : List ℕ) × IsOut request.out.now path × WritesUnpacked did old path (IsUnpackedLogIn (seen_since did holds old) request.dir.now) request.through_damage WentWell new)
+abbrev pub Unpacks : {S : Type 0} → (S → List Call → S → Type 0) → (S → List ℕ → Found → Type 0) → S → UnpackRequest → Ending → S → Type 0
+Unpacks did holds old request end new =
+    DoesNothing old (IsUnpackedLogIn (seen_since did holds old) request.dir.now) end new
+    ⊎ ((path : List ℕ) × IsOut request.out.now path × WritesUnpacked did old path (IsUnpackedLogIn (seen_since did holds old) request.dir.now) request.through_damage end new)

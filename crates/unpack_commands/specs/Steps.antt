@@ -13,7 +13,7 @@ use Rattle.unpack_commands.specs.declared.planned.PlannedCheckpoint.{PlannedChec
 use Rattle.unpack_commands.specs.declared.planned.PlannedFiles.{PlannedFiles}
 use Rattle.unpack_commands.specs.declared.planned.PlannedLog.{PlannedLog}
 use Rattle.unpack_commands.specs.declared.reading.FileDamage.{FileDamage}
-use Rattle.unpack_commands.specs.Folders.{DoesNothing, WritesUnpacked, checkpoint_files, files_in, log_files}
+use Rattle.unpack_commands.specs.Folders.{DoesNothing, Ending, WritesUnpacked, checkpoint_files, files_in, log_files}
 use Rattle.unpack_commands.specs.Logs.{AreUnpackedBehind, AreUnpackedIn, seen_since}
 
 -- a planned checkpoint with these files
@@ -67,5 +67,5 @@ module _ {S : Type 0} (did : S → List Call → S → Type 0) where
         × DidFirst did old ((CreateDir folder ∷ create_dirs dirs) ++ files_calls (log_files folder (with_files planned.checkpoint inner) segments)) new
 
     -- nothing was done, or a log was written or given up
-    abbrev pub UnpacksInto : List ℕ → (Option Checkpoint → List Segment → Option FileDamage → Type 0) → Bool → Type 0 → S → Type 0
-    UnpacksInto path IsLog through_damage WentWell new = DoesNothing old WentWell new ⊎ WritesUnpacked did old path IsLog through_damage WentWell new
+    abbrev pub UnpacksInto : List ℕ → (Option Checkpoint → List Segment → Option FileDamage → Type 0) → Bool → Ending → S → Type 0
+    UnpacksInto path IsLog through_damage end new = DoesNothing old IsLog end new ⊎ WritesUnpacked did old path IsLog through_damage end new

@@ -1,10 +1,9 @@
 //! The command `unpack`.
 
-ghost use Rattle.std.specs.Prelude.{◌≡◌, MatchResult, Some, map};
+ghost use Rattle.std.specs.Prelude.{MatchResult, Some, map};
 ghost use Rattle.std.specs.Option.{option_map};
 ghost use Rattle.wal_log.specs.Plan.{named as name_of};
-ghost use Rattle.prom_store.specs.declared.fault.Status.TheVariants.{Done};
-ghost use Rattle.unpack_commands.specs.Folders.{Unpacks};
+ghost use Rattle.unpack_commands.specs.Folders.{Unpacks, ending_of, failing};
 ghost use Rattle.unpack_commands.specs.Logs.{IsUnpackedPlan, seen_since};
 ghost use Rattle.unpack_commands.specs.Steps.{IsUnpackedFrom, UnpacksInto};
 
@@ -29,12 +28,14 @@ fn unpack_log<S: Store>(
     through_damage: bool,
 ) -> Result<Answer, Fault>
     ensures { MatchResult result
-        (λ answer. UnpacksInto S.did store.old target.now.path (IsUnpackedFrom (seen_since S.did S.holds store.old) log.now) through_damage (answer.status ≡ Done) store.new)
-        (λ _. UnpacksInto S.did store.old target.now.path (IsUnpackedFrom (seen_since S.did S.holds store.old) log.now) through_damage ⊥ store.new) }
+        (λ answer. UnpacksInto S.did store.old target.now.path (IsUnpackedFrom (seen_since S.did S.holds store.old) log.now) through_damage (ending_of through_damage answer) store.new)
+        (λ _. UnpacksInto S.did store.old target.now.path (IsUnpackedFrom (seen_since S.did S.holds store.old) log.now) through_damage failing store.new) }
 {
     if !through_damage {
-        if let Some(damage) = find_damage(alloc, store, log)? {
-            return Ok(damage_answer(alloc, damage)?);
+        let damage = find_damage(alloc, store, log)?;
+        if let Some(damage) = damage {
+            let answer = damage_answer(alloc, damage)?;
+            return Ok(answer);
         }
     }
     write_log(alloc, store, target, log, through_damage)
@@ -50,8 +51,8 @@ fn unpack_with_checkpoint<S: Store>(
     segments: &[Named<'_>],
 ) -> Result<Answer, Fault>
     ensures { MatchResult result
-        (λ answer. UnpacksInto S.did store.old target.now.path (IsUnpackedPlan (seen_since S.did S.holds store.old) request.now.dir.now (Some (name_of newest.now)) (map name_of segments.now)) request.now.through_damage (answer.status ≡ Done) store.new)
-        (λ _. UnpacksInto S.did store.old target.now.path (IsUnpackedPlan (seen_since S.did S.holds store.old) request.now.dir.now (Some (name_of newest.now)) (map name_of segments.now)) request.now.through_damage ⊥ store.new) }
+        (λ answer. UnpacksInto S.did store.old target.now.path (IsUnpackedPlan (seen_since S.did S.holds store.old) request.now.dir.now (Some (name_of newest.now)) (map name_of segments.now)) request.now.through_damage (ending_of request.now.through_damage answer) store.new)
+        (λ _. UnpacksInto S.did store.old target.now.path (IsUnpackedPlan (seen_since S.did S.holds store.old) request.now.dir.now (Some (name_of newest.now)) (map name_of segments.now)) request.now.through_damage failing store.new) }
 {
     let dir = join(alloc, request.dir, newest.name)?;
     let names = names_in(alloc, store, &dir)?;
@@ -79,8 +80,8 @@ fn unpack_planned<S: Store>(
     segments: &[Named<'_>],
 ) -> Result<Answer, Fault>
     ensures { MatchResult result
-        (λ answer. UnpacksInto S.did store.old target.now.path (IsUnpackedPlan (seen_since S.did S.holds store.old) request.now.dir.now (option_map name_of newest.entry) (map name_of segments.now)) request.now.through_damage (answer.status ≡ Done) store.new)
-        (λ _. UnpacksInto S.did store.old target.now.path (IsUnpackedPlan (seen_since S.did S.holds store.old) request.now.dir.now (option_map name_of newest.entry) (map name_of segments.now)) request.now.through_damage ⊥ store.new) }
+        (λ answer. UnpacksInto S.did store.old target.now.path (IsUnpackedPlan (seen_since S.did S.holds store.old) request.now.dir.now (option_map name_of newest.entry) (map name_of segments.now)) request.now.through_damage (ending_of request.now.through_damage answer) store.new)
+        (λ _. UnpacksInto S.did store.old target.now.path (IsUnpackedPlan (seen_since S.did S.holds store.old) request.now.dir.now (option_map name_of newest.entry) (map name_of segments.now)) request.now.through_damage failing store.new) }
 {
     match newest {
         Some(newest) => unpack_with_checkpoint(alloc, store, request, target, &newest, segments),
@@ -102,8 +103,8 @@ fn unpack<S: Store>(
     request: &UnpackRequest<'_>,
 ) -> Result<Answer, Fault>
     ensures { MatchResult result
-        (λ answer. Unpacks S.did S.holds store.old request.now (answer.status ≡ Done) store.new)
-        (λ _. Unpacks S.did S.holds store.old request.now ⊥ store.new) }
+        (λ answer. Unpacks S.did S.holds store.old request.now (ending_of request.now.through_damage answer) store.new)
+        (λ _. Unpacks S.did S.holds store.old request.now failing store.new) }
 {
     let target = free_target(alloc, store, request.out)?;
     let names = names_in(alloc, store, request.dir)?;
@@ -115,8 +116,8 @@ fn unpack<S: Store>(
 /// Carries out a request to unpack a log. Nothing is read or written if the name of `out` is that of a segment or of a checkpoint, which the
 /// folder would be taken for beside a log. If the status is `Done`, each file of the log stands for records up to its end, and a new folder
 /// at the path `out` has, under the number of each, the text of just these records. It is written in the order of `write_new_folder`: a crash
-/// at any moment leaves at the path what was there, or the whole folder, and after status `Done` the whole folder. The text to print is made
-/// before the folder is finished. Where a call fails the unfinished folder stays.
+/// at any moment leaves at the path what was there, or the whole folder, and after status `Done` the whole folder; also after `Damaged`, if what
+/// is before damage is wanted. The text to print is made before the folder is finished. Where a call fails the unfinished folder stays.
 ///
 /// The files are unpacked and written one after another. In memory are the names of the files, and of one file its bytes and the text of its
 /// records. Unless what is before damage is wanted, all files are read and unpacked once before anything is written, up to
@@ -130,7 +131,7 @@ pub fn carry_out_unpack<S: Store>(
     store: &mut S,
     request: UnpackRequest<'_>,
 ) -> Answer
-    ensures { Unpacks S.did S.holds store.old request.entry (result.status ≡ Done) store.new }
+    ensures { Unpacks S.did S.holds store.old request.entry (ending_of request.entry.through_damage result) store.new }
 {
     match unpack(alloc, store, &request) {
         Ok(answer) => answer,

@@ -1,11 +1,13 @@
 //! What is printed.
 
-ghost use Rattle.std.specs.Prelude.{◌≡◌, IfOk, None};
+ghost use Rattle.std.specs.Prelude.{◌≡◌, ◌∷◌, [], ◌++◌, ℕ, IfOk, IfSome, IsSome, List, None, OnOk, Some, string_bytes};
+ghost use Rattle.unpack_commands.specs.Told.{EndsWith, TellsUnpacked, damage_front};
 
 use crate::reading::FileDamage;
-use prom_commands::Answer;
-use prom_store::Status;
+use prom_commands::{Answer, push_numbers};
+use prom_store::{FileNumber, Status, kind_of_file};
 use std::alloc::{AllocError, Global};
+use wal_log::Place;
 
 /// How much was written: the files, the records in them, and their bytes.
 #[derive(Clone, Copy)]
@@ -41,43 +43,55 @@ fn sum(one: u64, other: u64) -> Result<u64, AllocError> {
     one.checked_add(other).ok_or(AllocError)
 }
 
-// Appends the line that tells damage: the file, the offset in it in bytes, and why.
-fn push_damage(text: &mut String, found: FileDamage) -> Result<(), AllocError> {
-    let FileDamage {
-        in_checkpoint,
-        number,
-        damage,
-    } = found;
-    let of = if in_checkpoint {
-        "checkpoint"
-    } else {
-        "segment"
+// Appends the front of the line that tells damage: the file, and the offset in it in bytes.
+fn push_front(text: &mut String, found: FileDamage) -> Result<(), AllocError>
+    ensures { OnOk result (string_bytes text.new ≡ string_bytes text.old ++ damage_front found) }
+{
+    let place = Place {
+        in_checkpoint: found.in_checkpoint,
+        file: found.number,
+        offset: found.damage.offset,
     };
-    let (offset, fault) = (damage.offset, damage.fault);
-    writeln!(text, "damage {of} {number:08} offset {offset} {fault}")
+    let (of, file, offset) = (kind_of_file(place), FileNumber(place.file), place.offset);
+    write!(text, "damage {of} {file} offset {offset} ")
+}
+
+// Appends the line that tells damage: the file, the offset in it in bytes, and why.
+fn push_damage(alloc: Global, text: &mut String, found: FileDamage) -> Result<(), AllocError>
+    ensures { OnOk result ((why : List ℕ) × (string_bytes text.new ≡ string_bytes text.old ++ (damage_front found ++ (why ++ 10 ∷ [])))) }
+{
+    push_front(text, found)?;
+    // apart, since no contract says what its text is
+    let fault = found.damage.fault;
+    let why = format!(in alloc; "{fault}")?;
+    text.push_str(&why)?;
+    text.push('\n')
 }
 
 // Returns the numbers of what was written, one a line, and the damage, if there is one.
-fn log_text(
-    alloc: Global,
-    totals: Totals,
-    damage: Option<FileDamage>,
-) -> Result<String, AllocError> {
+fn log_text(alloc: Global, totals: Totals, damage: Option<FileDamage>) -> Result<String, AllocError>
+    ensures { IfOk result (λ text. IfSome damage (λ bad. EndsWith bad (string_bytes text))) }
+{
     let Totals {
         files,
         records,
         bytes,
     } = totals;
-    let mut text = format!(in alloc; "files {files}\nrecords {records}\nbytes {bytes}\n")?;
+    let mut text = String::new(alloc);
+    push_numbers(
+        &mut text,
+        &[("files", files), ("records", records), ("bytes", bytes)],
+    )?;
     if let Some(damage) = damage {
-        push_damage(&mut text, damage)?;
+        push_damage(alloc, &mut text, damage)?;
     }
     Ok(text)
 }
 
 // Returns `Done`, or `Damaged` if there is damage.
 fn status_of(damage: Option<FileDamage>) -> Status
-    ensures { result ≡ Status.Done → damage ≡ None }
+    ensures done { result ≡ Status.Done → damage ≡ None }
+    ensures damaged { result ≡ Status.Damaged → IsSome damage }
 {
     match damage {
         Some(_) => Status::Damaged,
@@ -87,10 +101,11 @@ fn status_of(damage: Option<FileDamage>) -> Status
 
 /// Returns the answer where nothing is written: the line that tells the damage.
 pub(crate) fn damage_answer(alloc: Global, found: FileDamage) -> Result<Answer, AllocError>
-    ensures { IfOk result (λ answer. answer.status ≡ Status.Done → ⊥) }
+    ensures told { IfOk result (TellsUnpacked (Some found)) }
+    ensures fault { IfOk result (λ answer. answer.fault ≡ None) }
 {
     let mut text = String::new(alloc);
-    push_damage(&mut text, found)?;
+    push_damage(alloc, &mut text, found)?;
     Ok(Answer::done(text, Status::Damaged))
 }
 
@@ -100,7 +115,8 @@ pub(crate) fn log_answer(
     totals: Totals,
     damage: Option<FileDamage>,
 ) -> Result<Answer, AllocError>
-    ensures { IfOk result (λ answer. answer.status ≡ Status.Done → damage ≡ None) }
+    ensures told { IfOk result (TellsUnpacked damage) }
+    ensures fault { IfOk result (λ answer. answer.fault ≡ None) }
 {
     let text = log_text(alloc, totals, damage)?;
     Ok(Answer::done(text, status_of(damage)))

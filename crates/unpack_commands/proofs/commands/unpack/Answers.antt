@@ -1,7 +1,7 @@
-use Rattle.std.proofs.Common.{ap, map, string_bytes, subst, sym, ◌≡◌}
+use Rattle.std.proofs.Common.{ap, map, string_bytes, subst, sym}
 use Rattle.std.specs.Option.{option_map}
 use Rattle.wal_log.specs.Plan.{IsDirPlan, named as name_of}
-use Rattle.prom_store.specs.declared.fault.Status.TheVariants.{Done}
+use Rattle.unpack_commands.specs.Folders.{ending_of, failing}
 use Rattle.unpack_commands.specs.Logs.{IsUnpackedLogIn, IsUnpackedPlan, seen_since}
 use Rattle.unpack_commands.proofs.Plans.{into_weaker, unpacks_out}
 use Rattle.unpack_commands.proofs.Results.{match_weaker}
@@ -23,8 +23,8 @@ returns g c =
     let P = IsUnpackedPlan (seen_since did holds old) request.dir.now newest plan in
     let Q = IsUnpackedLogIn (seen_since did holds old) request.dir.now in
     match_weaker _ _ _ _ c.unpack_planned.result
-    (λ answer into. unpacks_out did holds old request new path (answer.status ≡ Done) c.in_ok-target.ensures.out
-    (into_weaker did old path P Q (λ ck s d is. record { names = names; listed = c.in_ok-names.ensures; newest = newest; plan = plan; planned = planned; unpacked = is }) request.through_damage (answer.status ≡ Done) new into))
-    (λ fault into. unpacks_out did holds old request new path ⊥ c.in_ok-target.ensures.out
-    (into_weaker did old path P Q (λ ck s d is. record { names = names; listed = c.in_ok-names.ensures; newest = newest; plan = plan; planned = planned; unpacked = is }) request.through_damage ⊥ new into))
+    (λ answer into. unpacks_out did holds old request new path (ending_of request.through_damage answer) c.in_ok-target.ensures.out
+    (into_weaker did old path P Q (λ ck s d is. record { names = names; listed = c.in_ok-names.ensures; newest = newest; plan = plan; planned = planned; unpacked = is }) request.through_damage (ending_of request.through_damage answer) new into))
+    (λ fault into. unpacks_out did holds old request new path failing c.in_ok-target.ensures.out
+    (into_weaker did old path P Q (λ ck s d is. record { names = names; listed = c.in_ok-names.ensures; newest = newest; plan = plan; planned = planned; unpacked = is }) request.through_damage failing new into))
     c.unpack_planned.ensures

@@ -1,7 +1,7 @@
-use Rattle.std.proofs.Common.{None, map, refl, subst, sym, ◌≡◌}
+use Rattle.std.proofs.Common.{None, map, refl, subst, sym}
 use Rattle.std.specs.Option.{option_map}
 use Rattle.wal_log.specs.Plan.{named as name_of}
-use Rattle.prom_store.specs.declared.fault.Status.TheVariants.{Done}
+use Rattle.unpack_commands.specs.Folders.{ending_of, failing}
 use Rattle.unpack_commands.specs.Logs.{IsUnpackedPlan, seen_since}
 use Rattle.unpack_commands.specs.Steps.{IsUnpackedFrom}
 use Rattle.unpack_commands.proofs.Plans.{into_weaker, planned_alone}
@@ -21,6 +21,6 @@ returns-in-None g c =
     let P = IsUnpackedFrom view (record { checkpoint = None; dir = c.args.request.now.dir; segments = c.args.segments }) in
     let Q = IsUnpackedPlan view dir (option_map name_of c.args.newest) plan in
     match_weaker _ _ _ _ c.unpack_log.result
-    (λ answer. into_weaker did old path P Q (λ ck s d is. subst (λ n. IsUnpackedPlan view dir (option_map name_of n) plan ck s d) (sym c.in-None.is) (planned_alone view (record { checkpoint = None; dir = c.args.request.now.dir; segments = c.args.segments }) ck s d refl is)) through (answer.status ≡ Done) new)
-    (λ fault. into_weaker did old path P Q (λ ck s d is. subst (λ n. IsUnpackedPlan view dir (option_map name_of n) plan ck s d) (sym c.in-None.is) (planned_alone view (record { checkpoint = None; dir = c.args.request.now.dir; segments = c.args.segments }) ck s d refl is)) through ⊥ new)
+    (λ answer. into_weaker did old path P Q (λ ck s d is. subst (λ n. IsUnpackedPlan view dir (option_map name_of n) plan ck s d) (sym c.in-None.is) (planned_alone view (record { checkpoint = None; dir = c.args.request.now.dir; segments = c.args.segments }) ck s d refl is)) through (ending_of through answer) new)
+    (λ fault. into_weaker did old path P Q (λ ck s d is. subst (λ n. IsUnpackedPlan view dir (option_map name_of n) plan ck s d) (sym c.in-None.is) (planned_alone view (record { checkpoint = None; dir = c.args.request.now.dir; segments = c.args.segments }) ck s d refl is)) through failing new)
     c.unpack_log.ensures

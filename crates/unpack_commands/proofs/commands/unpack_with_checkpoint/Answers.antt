@@ -1,7 +1,7 @@
-use Rattle.std.proofs.Common.{None, Some, ap, map, refl, string_bytes, subst, sym, ◌∙◌, ◌≡◌}
+use Rattle.std.proofs.Common.{None, Some, ap, map, refl, string_bytes, subst, sym, ◌∙◌}
 use Rattle.wal_log.specs.Plan.{IsPlan, named as name_of}
 use Rattle.prom_store.specs.Found.{Names}
-use Rattle.prom_store.specs.declared.fault.Status.TheVariants.{Done}
+use Rattle.unpack_commands.specs.Folders.{ending_of, failing}
 use Rattle.unpack_commands.specs.Logs.{seen_since}
 use Rattle.unpack_commands.proofs.Plans.{into_weaker, planned_with}
 use Rattle.unpack_commands.proofs.Results.{match_weaker}
@@ -20,6 +20,6 @@ returns g c =
     let plan = subst (λ ns. IsPlan None ns (map name_of c.deref-4.result.now)) (ap (map string_bytes) c.deref-2.ensures.value)
     (subst (λ xs. IsPlan None (map string_bytes c.deref-2.result.now) (map name_of xs)) (sym c.deref-4.ensures.value) c.in_ok-plan.ensures) in
     match_weaker _ _ _ _ c.unpack_log.result
-    (λ answer. into_weaker did old path _ _ (λ ck s d. planned_with (seen_since did holds old) (record { checkpoint = Some (record { number = c.args.newest.now.number; dir = c.deref-3.result; names = c.deref-4.result }); dir = c.args.request.now.dir; segments = c.args.segments }) ck s d (name_of c.args.newest.now) (record { number = c.args.newest.now.number; dir = c.deref-3.result; names = c.deref-4.result }) names refl refl (c.deref-3.ensures ∙ c.in_ok-dir.ensures) listed plan) through (answer.status ≡ Done) new)
-    (λ fault. into_weaker did old path _ _ (λ ck s d. planned_with (seen_since did holds old) (record { checkpoint = Some (record { number = c.args.newest.now.number; dir = c.deref-3.result; names = c.deref-4.result }); dir = c.args.request.now.dir; segments = c.args.segments }) ck s d (name_of c.args.newest.now) (record { number = c.args.newest.now.number; dir = c.deref-3.result; names = c.deref-4.result }) names refl refl (c.deref-3.ensures ∙ c.in_ok-dir.ensures) listed plan) through ⊥ new)
+    (λ answer. into_weaker did old path _ _ (λ ck s d. planned_with (seen_since did holds old) (record { checkpoint = Some (record { number = c.args.newest.now.number; dir = c.deref-3.result; names = c.deref-4.result }); dir = c.args.request.now.dir; segments = c.args.segments }) ck s d (name_of c.args.newest.now) (record { number = c.args.newest.now.number; dir = c.deref-3.result; names = c.deref-4.result }) names refl refl (c.deref-3.ensures ∙ c.in_ok-dir.ensures) listed plan) through (ending_of through answer) new)
+    (λ fault. into_weaker did old path _ _ (λ ck s d. planned_with (seen_since did holds old) (record { checkpoint = Some (record { number = c.args.newest.now.number; dir = c.deref-3.result; names = c.deref-4.result }); dir = c.args.request.now.dir; segments = c.args.segments }) ck s d (name_of c.args.newest.now) (record { number = c.args.newest.now.number; dir = c.deref-3.result; names = c.deref-4.result }) names refl refl (c.deref-3.ensures ∙ c.in_ok-dir.ensures) listed plan) through failing new)
     c.unpack_log.ensures
