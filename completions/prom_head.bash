@@ -6,7 +6,7 @@ _prom_head() {
         return
     fi
     case ${COMP_WORDS[1]} in
-        inspect) options='-h --json --help' ;;
+        inspect) options='-h --json --min-valid --min-valid-of --help' ;;
         unpack) options='-h --out --through-damage --help' ;;
         replay) options='-h --workers --round-pages --min-valid --min-valid-of --help' ;;
         records) options='-h --help' ;;

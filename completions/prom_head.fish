@@ -13,6 +13,8 @@ complete -c prom_head -n __fish_use_subcommand -a append -d 'Appends rows to the
 complete -c prom_head -n __fish_use_subcommand -a checkpoint -d 'Makes a checkpoint of the log'
 complete -c prom_head -n __fish_use_subcommand -a help -d 'Print help'
 complete -c prom_head -n '__fish_seen_subcommand_from inspect' -l json -d 'Print one JSON document'
+complete -c prom_head -n '__fish_seen_subcommand_from inspect' -l min-valid -r -d 'The least valid time in milliseconds; samples before it get no note'
+complete -c prom_head -n '__fish_seen_subcommand_from inspect' -l min-valid-of -r -d 'Take the least valid time from the blocks of a data directory'
 complete -c prom_head -n '__fish_seen_subcommand_from inspect' -l help -s h -d 'Print help (see more with '\''--help'\'')'
 complete -c prom_head -n '__fish_seen_subcommand_from unpack' -l out -r -d 'The directory that is made for the log'
 complete -c prom_head -n '__fish_seen_subcommand_from unpack' -l through-damage -d 'Of a damaged log, write what is before the damage'

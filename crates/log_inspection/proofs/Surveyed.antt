@@ -1,5 +1,5 @@
 -- Surveys of files, one after another.
-use Rattle.std.proofs.Common.{◌≡◌, ℕ, ◌+◌, ◌<◌, ◌++◌, ◌∷◌, [], List, length, map, take, get_or, refl, sym, ap, subst, ◌∙◌}
+use Rattle.std.proofs.Common.{◌≡◌, ℕ, ℤ, ◌+◌, ◌<◌, ◌++◌, ◌∷◌, [], List, length, map, take, get_or, refl, sym, ap, subst, ◌∙◌}
 use Rattle.std.specs.Prelude.{◌||◌, Bool, cond, false, None, Option, Some, string_bytes}
 use Rattle.std.specs.List.{AllZip, count_by, fold, list_any}
 use Rattle.std.specs.Option.{option_map}
@@ -16,7 +16,7 @@ use Rattle.hw_bytes.proofs.Lists.{flat_map-push}
 use Rattle.log_references.specs.Unbound.{AreReferencesOf, IsUnboundIn, ReferencesValue}
 use Rattle.log_inspection.specs.declared.files.FileSurvey.{FileSurvey}
 use Rattle.log_inspection.specs.Files.{HasSurveyed, HaveSurveyed, Surveyed, records_of}
-use Rattle.log_inspection.specs.Inspections.{AreCheckpointSurveys, ArePlannedSurveys, AreSurveysIn, IsInspectionIn, IsSurveyIn, is_passed_over, is_wal}
+use Rattle.log_inspection.specs.Inspections.{AreCheckpointSurveys, ArePlannedSurveys, AreSurveysIn, IsInspectionIn, IsSurveyIn, is_passed_over, is_wal, is_wbl}
 
 -- two lists with one more item each
 AllZip_more : {A B : Type 0} (R : A → B → Type 0) (xs : List A) (ys : List B) (x : A) (y : B) → AllZip R xs ys → R x y → AllZip R (xs ++ x ∷ []) (ys ++ y ∷ [])
@@ -36,10 +36,10 @@ surveys_more R names i d files all f within are each last =
 module _ (view : View) (dir : List ℕ) where
   -- no files
   pub none_surveyed : (in_checkpoint : Bool) (figures : List FileSurvey) (old : ReferencesValue) → figures ≡ [] → HaveSurveyed (AreSurveysIn view dir in_checkpoint []) figures old old
-  none_surveyed in_checkpoint figures old none = record { surveyed = []; are = tt; each = none; taken = λ before h. subst (λ (rs : List Placed). AreReferencesOf rs old) (sym (append-nil before)) h }
+  none_surveyed in_checkpoint figures old none = record { surveyed = []; are = tt; each = none; taken = λ m before h. subst (λ (rs : List Placed). AreReferencesOf m rs old) (sym (append-nil before)) h }
 
   pub no_checkpoint : (figures : List FileSurvey) (old : ReferencesValue) → figures ≡ [] → HaveSurveyed (AreCheckpointSurveys view dir None) figures old old
-  no_checkpoint figures old none = record { surveyed = []; are = refl; each = none; taken = λ before h. subst (λ (rs : List Placed). AreReferencesOf rs old) (sym (append-nil before)) h }
+  no_checkpoint figures old none = record { surveyed = []; are = refl; each = none; taken = λ m before h. subst (λ (rs : List Placed). AreReferencesOf m rs old) (sym (append-nil before)) h }
 
   -- the next file
   pub more_surveyed : (in_checkpoint : Bool) (names : List Named) (i : ℕ) (d : Named) (figures all : List FileSurvey) (f : FileSurvey) (old mid new : ReferencesValue) → i < length names → all ≡ figures ++ f ∷ []
@@ -51,10 +51,10 @@ module _ (view : View) (dir : List ℕ) where
         surveyed = before.surveyed ++ s ∷ [];
         are = surveys_more (IsSurveyIn view dir in_checkpoint) names i d before.surveyed (before.surveyed ++ s ∷ []) s within refl before.are last.surveyed;
         each = is ∙ ap (λ (fs : List FileSurvey). fs ++ f ∷ []) before.each ∙ sym (map-append (λ (t : Surveyed). t.figures) before.surveyed (s ∷ []));
-        taken = λ records h.
-            subst (λ (rs : List Placed). AreReferencesOf rs new)
+        taken = λ m records h.
+            subst (λ (rs : List Placed). AreReferencesOf m rs new)
             (append_assoc records (records_of before.surveyed) last.placed ∙ ap (λ (rs : List Placed). records ++ rs) (sym (flat_map-push (λ (t : Surveyed). t.placed) before.surveyed s)))
-            (last.taken (records ++ records_of before.surveyed) (before.taken records h));
+            (last.taken m (records ++ records_of before.surveyed) (before.taken m records h));
       }
 
   -- the files of the checkpoint and the segments
@@ -64,10 +64,10 @@ module _ (view : View) (dir : List ℕ) where
     surveyed = a.surveyed ++ b.surveyed;
     are = record { first = a.surveyed; later = b.surveyed; all = refl; checkpoint = a.are; segments = b.are };
     each = is ∙ ap (λ (fs : List FileSurvey). fs ++ later) a.each ∙ ap (λ (fs : List FileSurvey). map (λ (t : Surveyed). t.figures) a.surveyed ++ fs) b.each ∙ sym (map-append (λ (t : Surveyed). t.figures) a.surveyed b.surveyed);
-    taken = λ records h.
-        subst (λ (rs : List Placed). AreReferencesOf rs new)
+    taken = λ m records h.
+        subst (λ (rs : List Placed). AreReferencesOf m rs new)
         (append_assoc records (records_of a.surveyed) (records_of b.surveyed) ∙ ap (λ (rs : List Placed). records ++ rs) (sym (flat_map-append (λ (t : Surveyed). t.placed) a.surveyed b.surveyed)))
-        (b.taken (records ++ records_of a.surveyed) (a.taken records h));
+        (b.taken m (records ++ records_of a.surveyed) (a.taken m records h));
   }
 
 -- the same files, said otherwise
@@ -92,11 +92,11 @@ numbers None = refl
 numbers (Some named) = refl
 
 -- what was surveyed by the plan of a directory is the inspection of its log
-pub inspected : (view : View) (dir : List ℕ) (names : List (String Global)) (plan : DirPlan) (i : Inspection) (none kept : ReferencesValue) → view.names dir (map string_bytes names)
+pub inspected : (view : View) (dir : List ℕ) (m : ℤ) (names : List (String Global)) (plan : DirPlan) (i : Inspection) (none kept : ReferencesValue) → view.names dir (map string_bytes names)
     → IsDirPlan (map string_bytes names) (option_map name_of plan.checkpoint) (map name_of plan.segments) → i.checkpoint ≡ option_map (λ (n : Named). n.number) plan.checkpoint
-    → HaveSurveyed (ArePlannedSurveys view dir (option_map name_of plan.checkpoint) (map name_of plan.segments)) i.files.items none kept → AreReferencesOf [] none
-    → ((placed : List Placed) → AreReferencesOf placed kept → IsUnboundIn placed i.unbound) → i.passed_over ≡ count_by (λ name. is_passed_over i.checkpoint (string_bytes name)) names → i.has_wal ≡ list_any (λ name. is_wal (string_bytes name)) names → IsInspectionIn view dir i
-inspected view dir names plan i none kept listed planned checkpoint files empty unbound passed wal = record {
+    → HaveSurveyed (ArePlannedSurveys view dir (option_map name_of plan.checkpoint) (map name_of plan.segments)) i.files.items none kept → AreReferencesOf m [] none
+    → ((k : ℤ) (placed : List Placed) → AreReferencesOf k placed kept → IsUnboundIn k placed i.unbound) → i.passed_over ≡ count_by (λ name. is_passed_over i.checkpoint (string_bytes name)) names → i.has_wal ≡ list_any (λ name. is_wal (string_bytes name)) names → i.is_wbl ≡ is_wbl dir → IsInspectionIn view dir m i
+inspected view dir m names plan i none kept listed planned checkpoint files empty unbound passed wal wbl = record {
   names = map string_bytes names;
   listed = listed;
   newest = option_map name_of plan.checkpoint;
@@ -106,7 +106,8 @@ inspected view dir names plan i none kept listed planned checkpoint files empty 
   surveyed = files.surveyed;
   read = files.are;
   files = files.each;
-  unbound = unbound (records_of files.surveyed) (files.taken [] empty);
+  unbound = unbound m (records_of files.surveyed) (files.taken m [] empty);
   passed = passed ∙ sym (count_mapped (is_passed_over i.checkpoint) string_bytes names);
   wal = wal ∙ sym (any_mapped is_wal string_bytes names);
+  wbl = wbl;
 }

@@ -1,5 +1,5 @@
 -- What one file of a log holds.
-use Rattle.std.specs.Prelude.{◌≡◌, ◌&&◌, ◌++◌, ℕ, Bool, true, false, List, Option, None, Some, length, map, nat_lt}
+use Rattle.std.specs.Prelude.{◌≡◌, ◌&&◌, ◌++◌, ℕ, ℤ, Bool, true, false, List, Option, None, Some, length, map, nat_lt}
 use Rattle.std.specs.List.{flat_map}
 use Rattle.wal_page.specs.File.{pages_of}
 use Rattle.wal_page.specs.Page.{is_pad}
@@ -49,9 +49,9 @@ pub record IsFileSurvey (file : LogFile) (s : Surveyed) : Type 0 where
   pub counted : IsSurveyOf (contents s.placed) s.figures.survey
   pub unpacked : TellsUnpacked file.segment.bytes (is_compressed s.figures.survey.damage) s.figures.unpacked
 
--- the references that were those of any records are now those of these records behind them
+-- the references that were those of any records are now those of these records behind them, whatever the least valid time m is
 abbrev pub TakesOn : ReferencesValue → List Placed → ReferencesValue → Type 0
-TakesOn old placed new = (before : List Placed) → AreReferencesOf before old → AreReferencesOf (before ++ placed) new
+TakesOn old placed new = (m : ℤ) (before : List Placed) → AreReferencesOf m before old → AreReferencesOf m (before ++ placed) new
 
 -- P holds of a file with these figures, and its references were taken.
 pub record HasSurveyed (P : Surveyed → Type 0) (figures : FileSurvey) (old new : ReferencesValue) : Type 0 where

@@ -1,8 +1,8 @@
 -- The inspection of the log in a directory, by what is seen of it.
-use Rattle.std.specs.Prelude.{◌≡◌, ◌++◌, [], ℕ, Bool, true, false, List, None, Option, Some, bytes_eq, codes, map, nat_le}
+use Rattle.std.specs.Prelude.{◌≡◌, ◌++◌, [], ℕ, ℤ, Bool, true, false, List, None, Option, Some, bytes_eq, codes, map, nat_le}
 use Rattle.std.specs.List.{AllZip, count_by, list_any}
 use Rattle.std.specs.Option.{option_map}
-use Rattle.std.specs.Path.{path_join}
+use Rattle.std.specs.Path.{path_file_name, path_join}
 use Rattle.wal_log.specs.declared.input.Segment.{Segment}
 use Rattle.wal_log.specs.Names.{number_of}
 use Rattle.wal_log.specs.Plan.{IsDirPlan, IsPlan, NumberedName}
@@ -15,6 +15,14 @@ use Rattle.log_inspection.specs.Files.{IsFileSurvey, Surveyed, records_of}
 -- whether the name is `wal`
 abbrev pub is_wal : List ℕ → Bool
 is_wal name = bytes_eq name (codes "wal")
+
+-- whether the directory is one of records that came out of order: the last component of its path is `wbl`
+abbrev pub is_wbl_name : Option (List ℕ) → Bool
+is_wbl_name None = false
+is_wbl_name (Some name) = bytes_eq name (codes "wbl")
+
+abbrev pub is_wbl : List ℕ → Bool
+is_wbl dir = is_wbl_name (path_file_name dir)
 
 -- whether the name is that of a segment which is not past the checkpoint
 abbrev pub is_at_most : ℕ → Option ℕ → Bool
@@ -54,9 +62,9 @@ pub record ArePlannedSurveys (view : View) (dir : List ℕ) (newest : Option Num
   pub checkpoint : AreCheckpointSurveys view dir newest first
   pub segments : AreSurveysIn view dir false plan later
 
--- The inspection of the log in a directory: the surveys of the files of its newest checkpoint, then of the segments past it, and the
--- references that are unbound in the records of all these files.
-pub record IsInspectionIn (view : View) (dir : List ℕ) (i : Inspection) : Type 0 where
+-- The inspection of the log in a directory with the least valid time m: the surveys of the files of its newest checkpoint, then of the
+-- segments past it, and the references of samples from m on that are unbound in the records of all these files.
+pub record IsInspectionIn (view : View) (dir : List ℕ) (m : ℤ) (i : Inspection) : Type 0 where
   pub names : List (List ℕ)
   pub listed : view.names dir names
   pub newest : Option NumberedName
@@ -66,6 +74,7 @@ pub record IsInspectionIn (view : View) (dir : List ℕ) (i : Inspection) : Type
   pub surveyed : List Surveyed
   pub read : ArePlannedSurveys view dir newest plan surveyed
   pub files : i.files.items ≡ map (λ s. s.figures) surveyed
-  pub unbound : IsUnboundIn (records_of surveyed) i.unbound
+  pub unbound : IsUnboundIn m (records_of surveyed) i.unbound
   pub passed : i.passed_over ≡ count_by (is_passed_over i.checkpoint) names
   pub wal : i.has_wal ≡ list_any is_wal names
+  pub wbl : i.is_wbl ≡ is_wbl dir

@@ -6,13 +6,14 @@ ghost use Rattle.std.specs.Option.{option_map};
 ghost use Rattle.wal_log.specs.Plan.{named as name_of};
 ghost use Rattle.prom_store.specs.Views.{view_of};
 ghost use Rattle.log_inspection.specs.Files.{HasSurveyed, HaveSurveyed};
-ghost use Rattle.log_inspection.specs.Inspections.{AreCheckpointSurveys, AreFolderSurveys, ArePlannedSurveys, AreSurveysIn, IsInspectionIn, IsSurveyIn, is_passed_over as is_passed_over_of, is_wal};
+ghost use Rattle.log_inspection.specs.Inspections.{AreCheckpointSurveys, AreFolderSurveys, ArePlannedSurveys, AreSurveysIn, IsInspectionIn, IsSurveyIn, is_passed_over as is_passed_over_of, is_wal, is_wbl as is_wbl_path};
 
 use crate::files::{FileSurvey, survey_file};
 use log_references::{References, Unbound};
 use prom_commands::{names_in, plan_checkpoint, plan_log, read_planned_file};
 use prom_store::{Fault, Store, join};
 use std::alloc::Global;
+use std::path::Path;
 use wal_log::{DirPlan, Named, segment_number};
 
 /// What the files of the log in a directory hold.
@@ -22,12 +23,15 @@ pub struct Inspection {
     pub checkpoint: Option<u64>,
     /// The files in the order of the log: those of the checkpoint, then the segments.
     pub files: Vec<FileSurvey>,
-    /// The references of samples that no series entry of these files binds.
+    /// The references of samples from the least valid time on that no series entry of these files binds.
     pub unbound: Unbound,
     /// How many segments of the directory are not past the checkpoint, and so none of these files.
     pub passed_over: u64,
     /// Whether the directory has a file or a directory named `wal`.
     pub has_wal: bool,
+    /// Whether the directory is a server's `wbl`, by the last component of its path: records that came out of order, whose first segment
+    /// has any number.
+    pub is_wbl: bool,
 }
 
 // Returns whether a name is that of a segment which is not past the checkpoint.
@@ -55,6 +59,16 @@ fn has_wal(names: &[String]) -> bool
     ensures { result ≡ list_any (λ name. is_wal (string_bytes name)) names.now }
 {
     names.iter().any(|name| name.as_str() == "wal")
+}
+
+// Returns whether the last component of a path is `wbl`.
+fn is_wbl(dir: &str) -> bool
+    ensures { result ≡ is_wbl_path dir.now }
+{
+    match Path::new(dir).file_name() {
+        Some(name) => name == "wbl",
+        None => false,
+    }
 }
 
 // Reads and surveys a planned file of a directory.
@@ -140,14 +154,19 @@ fn survey_planned<S: Store>(
 }
 
 /// Surveys the log in a directory: the files of its newest checkpoint and the segments past it, one after another, each up to its first
-/// damage, and finds the references of samples that no series entry of all these files binds. All names of a directory are checked before
-/// the first of its files is read.
-pub fn inspect_log<S: Store>(alloc: Global, store: &S, dir: &str) -> Result<Inspection, Fault>
-    ensures { IfOk result (IsInspectionIn (view_of (S.holds store.now)) dir.now) }
+/// damage, and finds the references of samples, from the least valid time in milliseconds on, that no series entry of all these files binds.
+/// All names of a directory are checked before the first of its files is read.
+pub fn inspect_log<S: Store>(
+    alloc: Global,
+    store: &S,
+    dir: &str,
+    min_valid: i64,
+) -> Result<Inspection, Fault>
+    ensures { IfOk result (IsInspectionIn (view_of (S.holds store.now)) dir.now min_valid) }
 {
     let names = names_in(alloc, store, dir)?;
     let plan = plan_log(alloc, &names)?;
-    let mut references = References::new(alloc, store.seed());
+    let mut references = References::new(alloc, store.seed(), min_valid);
     let files = survey_planned(alloc, store, dir, &plan, &mut references)?;
     let checkpoint = plan.checkpoint.map(|named| named.number);
     Ok(Inspection {
@@ -156,5 +175,6 @@ pub fn inspect_log<S: Store>(alloc: Global, store: &S, dir: &str) -> Result<Insp
         unbound: references.unbound(),
         passed_over: passed_over(checkpoint, &names),
         has_wal: has_wal(&names),
+        is_wbl: is_wbl(dir),
     })
 }

@@ -24,7 +24,7 @@ least_blocks least (Block path) = Block path
 -- the same, with this least valid time where it has one
 abbrev pub from_least : ℤ → Asked → Asked
 from_least least (OfLog request) = OfLog (least_log least request)
-from_least least (Inspect request) = Inspect request
+from_least least (Inspect request) = Inspect (record request { min_valid = least })
 from_least least (Analyze request) = Analyze (record request { options = least_options least request.options })
 from_least least (Dump request) = Dump (record request { options = least_options least request.options })
 from_least least (OfBlocks request) = OfBlocks (least_blocks least request)

@@ -51,6 +51,13 @@ pub(crate) fn min_valid<'a>(alloc: Global) -> Arg<'a> {
     )
 }
 
+// Returns the option of the least valid time where nothing is replayed, and only notes are by it.
+pub(crate) fn noted_from<'a>(alloc: Global) -> Arg<'a> {
+    number(alloc, "min-valid", "M").help(
+        "The least valid time in milliseconds; samples before it get no note",
+    )
+}
+
 // Returns the option that stands in the place of `--min-valid`, also where that is required.
 fn min_valid_of<'a>(alloc: Global) -> Result<Arg<'a>, AllocError> {
     Arg::new(alloc, "min-valid-of")

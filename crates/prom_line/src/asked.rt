@@ -74,6 +74,7 @@ fn of_inspect<'a>(of: &ArgMatches<'a>) -> Option<InspectRequest<'a>> {
     Some(InspectRequest {
         dir: of.get_str("dir")?,
         json: of.get_flag("json"),
+        min_valid: min_valid(of),
     })
 }
 

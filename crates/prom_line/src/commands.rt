@@ -51,7 +51,7 @@ fn records<'a>(alloc: Global) -> Result<Command<'a>, AllocError> {
 fn inspect<'a>(alloc: Global) -> Result<Command<'a>, AllocError> {
     let about = "Says what each file of the log holds, and what may be lost";
     let command = on_log(alloc, "inspect", about, texts::INSPECT);
-    also(command, json(alloc))
+    with_min_valid(alloc, also(command, json(alloc)), noted_from(alloc))
 }
 
 fn series<'a>(alloc: Global) -> Result<Command<'a>, AllocError> {

@@ -7,7 +7,7 @@ use crate::asked::Asked;
 use head_replay::Options;
 use prom_store::{
     AnalyzeRequest, AppendRequest, BlockRequest, CheckpointRequest, CutRequest, DumpRequest,
-    Request,
+    InspectRequest, Request,
 };
 
 // Returns the request with this least valid time. One that replays nothing is returned unchanged.
@@ -90,7 +90,11 @@ impl<'a> Asked<'a> {
                 min_valid,
                 ..request
             }),
-            Asked::Inspect(_) | Asked::Unpack(_) => self,
+            Asked::Inspect(request) => Asked::Inspect(InspectRequest {
+                min_valid,
+                ..request
+            }),
+            Asked::Unpack(_) => self,
         }
     }
 }

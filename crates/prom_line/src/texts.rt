@@ -28,10 +28,11 @@ Exit status:
 
 pub(crate) const INSPECT: &str = "\
 Writes nothing. Each file is read by itself, also behind one that is damaged. Notes say what
-may be lost.
+may be lost. A log also has samples that blocks have by now, and their series may be gone from
+it: name the data directory by --min-valid-of, and there is no note on such samples.
 
 Example:
-  prom_head inspect /var/lib/prometheus/metrics2/wal
+  prom_head inspect /var/lib/prometheus/metrics2/wal --min-valid-of /var/lib/prometheus/metrics2
 
 Exit status:
   0  each file was read to its end, and there is nothing to note

@@ -1,3 +1,4 @@
 pub mod Remarks
 pub mod Remarking
 pub mod Statuses
+pub mod Documents

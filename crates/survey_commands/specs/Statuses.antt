@@ -1,5 +1,5 @@
 -- The status by what an inspection of the log in a directory found.
-use Rattle.std.specs.Prelude.{◌≡◌, ◌⊎◌, List, ℕ}
+use Rattle.std.specs.Prelude.{◌≡◌, ◌⊎◌, List, ℕ, ℤ}
 use Rattle.prom_store.specs.declared.fault.Status.{Status}
 use Rattle.prom_store.specs.Views.{View}
 use Rattle.log_inspection.specs.declared.inspection.Inspection.{Inspection}
@@ -7,9 +7,9 @@ use Rattle.log_inspection.specs.Inspections.{IsInspectionIn}
 use Rattle.survey_commands.specs.declared.remarks.Remark.{Remark}
 use Rattle.survey_commands.specs.Remarks.{Holds}
 
--- a log in the directory was inspected, and no remark holds of it
-abbrev pub IsCleanIn : View → List ℕ → Type 0
-IsCleanIn view dir = (i : Inspection) × IsInspectionIn view dir i × ((r : Remark) → Holds i r → ⊥)
+-- a log in the directory was inspected with the least valid time m, and no remark holds of it
+abbrev pub IsCleanIn : View → List ℕ → ℤ → Type 0
+IsCleanIn view dir m = (i : Inspection) × IsInspectionIn view dir m i × ((r : Remark) → Holds i r → ⊥)
 
 -- the status by an inspection: `Done` if no remark holds of it, and `Damaged` if one does
 abbrev pub IsStatusOf : Inspection → Status → Type 0

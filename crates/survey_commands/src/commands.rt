@@ -1,9 +1,10 @@
 //! The command `inspect`, over any store.
 
-ghost use Rattle.std.specs.Prelude.{◌≡◌, IfOk};
+ghost use Rattle.std.specs.Prelude.{◌≡◌, IfOk, None, string_bytes, true};
 ghost use Rattle.prom_store.specs.Views.{view_of};
 ghost use Rattle.log_inspection.specs.declared.inspection.Inspection.{Inspection as LogInspection};
 ghost use Rattle.log_inspection.specs.Inspections.{IsInspectionIn};
+ghost use Rattle.survey_commands.specs.Documents.{IsDocument, IsDocumentIn};
 ghost use Rattle.survey_commands.specs.Statuses.{IsCleanIn, IsStatusOf};
 
 use crate::json::inspection_document;
@@ -20,7 +21,9 @@ fn printed_text(
     json: bool,
     inspection: &Inspection,
     remarks: &[Remark],
-) -> Result<String, AllocError> {
+) -> Result<String, AllocError>
+    ensures { IfOk result (λ text. json ≡ true → IsDocument inspection.now remarks.now (string_bytes text)) }
+{
     if json {
         inspection_document(alloc, inspection, remarks)
     } else {
@@ -28,11 +31,17 @@ fn printed_text(
     }
 }
 
-fn execute<S: Store>(alloc: Global, store: &S, dir: &str, json: bool) -> Result<Answer, Fault>
-    ensures status { IfOk result (λ answer. (i : LogInspection) × IsInspectionIn (view_of (S.holds store.now)) dir.now i × IsStatusOf i answer.status) }
-    ensures clean { IfOk result (λ answer. answer.status ≡ Status.Done → IsCleanIn (view_of (S.holds store.now)) dir.now) }
+fn execute<S: Store>(alloc: Global, store: &S, request: InspectRequest<'_>) -> Result<Answer, Fault>
+    ensures status { IfOk result (λ answer. (i : LogInspection) × IsInspectionIn (view_of (S.holds store.now)) request.entry.dir.now request.entry.min_valid i × IsStatusOf i answer.status) }
+    ensures clean { IfOk result (λ answer. answer.status ≡ Status.Done → IsCleanIn (view_of (S.holds store.now)) request.entry.dir.now request.entry.min_valid) }
+    ensures document { IfOk result (λ answer. request.entry.json ≡ true → IsDocumentIn (view_of (S.holds store.now)) request.entry.dir.now request.entry.min_valid (string_bytes answer.printed)) }
 {
-    let inspection = inspect_log(alloc, store, dir)?;
+    let InspectRequest {
+        dir,
+        json,
+        min_valid,
+    } = request;
+    let inspection = inspect_log(alloc, store, dir, min_valid)?;
     let remarks = remarks_on(alloc, &inspection)?;
     let text = printed_text(alloc, json, &inspection, &remarks)?;
     Ok(Answer {
@@ -44,11 +53,13 @@ fn execute<S: Store>(alloc: Global, store: &S, dir: &str, json: bool) -> Result<
 }
 
 /// Carries out a request, which changes nothing in the store. The status is `Done` only if each file of the log was read to its end and
-/// there is nothing to remark.
+/// there is nothing to remark; if no fault is told, it is `Damaged` otherwise. The JSON document has the figures of each file and their sums.
 pub fn carry_out_inspect<S: Store>(alloc: Global, store: &S, request: InspectRequest<'_>) -> Answer
-    ensures { result.status ≡ Status.Done → IsCleanIn (view_of (S.holds store.now)) request.entry.dir.now }
+    ensures clean { result.status ≡ Status.Done → IsCleanIn (view_of (S.holds store.now)) request.entry.dir.now request.entry.min_valid }
+    ensures status { result.fault ≡ None → (i : LogInspection) × IsInspectionIn (view_of (S.holds store.now)) request.entry.dir.now request.entry.min_valid i × IsStatusOf i result.status }
+    ensures document { request.entry.json ≡ true → result.fault ≡ None → IsDocumentIn (view_of (S.holds store.now)) request.entry.dir.now request.entry.min_valid (string_bytes result.printed) }
 {
-    match execute(alloc, store, request.dir, request.json) {
+    match execute(alloc, store, request) {
         Ok(answer) => answer,
         Err(fault) => Answer::failed(alloc, fault),
     }

@@ -1,5 +1,10 @@
 //! The document that the command prints with `--json`.
 
+ghost use Rattle.std.specs.Prelude.{◌≡◌, ℕ, IfOk, List, OnOk, length, string_bytes};
+ghost use Rattle.serde_json.specs.Data.{no_members, object, string};
+ghost use Rattle.serde_json.specs.View.{members_view, view};
+ghost use Rattle.survey_commands.specs.Documents.{IsDocument, array_of, count_data, count_members, damage_data, document_members, file_data, file_members, file_word, name_members, or_null, size_members, skipped_data, sums_members, survey_members, time_members, with_members};
+
 use crate::remarks::Remark;
 use crate::report::push_remark;
 use log_inspection::{FileSurvey, Inspection, Sums, sums_of};
@@ -8,7 +13,9 @@ use serde_json::{Map, Value, json, put};
 use std::alloc::{AllocError, Global};
 use wal_log::Damage;
 
-fn count_value(alloc: Global, count: KindCount) -> Result<Value, AllocError> {
+fn count_value(alloc: Global, count: KindCount) -> Result<Value, AllocError>
+    ensures { IfOk result (λ v. view v ≡ count_data count) }
+{
     json!(in alloc; {"records": count.records, "entries": count.entries})
 }
 
@@ -19,7 +26,9 @@ fn put_counts(
     series: KindCount,
     samples: KindCount,
     deletions: KindCount,
-) -> Result<(), AllocError> {
+) -> Result<(), AllocError>
+    ensures { OnOk result (members_view members.new.entries ≡ with_members (count_members series samples deletions) (members_view members.old.entries)) }
+{
     put(members, alloc, "series", count_value(alloc, series)?)?;
     put(members, alloc, "samples", count_value(alloc, samples)?)?;
     put(members, alloc, "deletions", count_value(alloc, deletions)?)
@@ -30,7 +39,9 @@ fn put_times(
     members: &mut Map<String, Value>,
     alloc: Global,
     times: Option<(i64, i64)>,
-) -> Result<(), AllocError> {
+) -> Result<(), AllocError>
+    ensures { OnOk result (members_view members.new.entries ≡ with_members (time_members times) (members_view members.old.entries)) }
+{
     let (first, last) = match times {
         Some((first, last)) => (Value::from(first), Value::from(last)),
         None => (Value::Null, Value::Null),
@@ -45,26 +56,50 @@ fn put_size(
     alloc: Global,
     bytes: u64,
     pages: u64,
-) -> Result<(), AllocError> {
+) -> Result<(), AllocError>
+    ensures { OnOk result (members_view members.new.entries ≡ with_members (size_members bytes pages) (members_view members.old.entries)) }
+{
     put(members, alloc, "bytes", Value::from(bytes))?;
     put(members, alloc, "pages", Value::from(pages))
 }
 
-// Returns the number of records of each other type. The type is `null` for the record of no bytes.
-fn skipped_value(alloc: Global, skipped: &[SkippedCount]) -> Result<Value, AllocError> {
-    let mut list = Vec::new(alloc);
-    for count in skipped {
-        list.push(json!(in alloc; {"type": count.kind, "records": count.records})?)?;
-    }
-    Ok(Value::Array(list))
+// Returns the number of records of a type, which is `null` for the record of no bytes.
+fn skipped_value(alloc: Global, count: SkippedCount) -> Result<Value, AllocError>
+    ensures { IfOk result (λ v. view v ≡ skipped_data count) }
+{
+    json!(in alloc; {"type": count.kind, "records": count.records})
 }
 
-fn damage_value(alloc: Global, damage: Option<Damage>) -> Result<Value, AllocError> {
+// Returns the number of records of each other type.
+fn all_skipped_value(alloc: Global, skipped: &[SkippedCount]) -> Result<Value, AllocError>
+    ensures { IfOk result (λ v. view v ≡ array_of skipped_data skipped.now) }
+{
+    let mut list = Vec::new(alloc);
+    for count in skipped {
+        list.push(skipped_value(alloc, *count)?)?;
+    }
+    Ok(Value::from(list))
+}
+
+fn damage_value(alloc: Global, damage: Option<Damage>) -> Result<Value, AllocError>
+    ensures { IfOk result (λ v. view v ≡ or_null damage_data damage) }
+{
     let Some(Damage { place, kind }) = damage else {
         return Ok(Value::Null);
     };
     let (offset, number, name) = (place.offset, kind.number(), kind.name());
     json!(in alloc; {"offset": offset, "kind": number, "name": name})
+}
+
+// Returns the word for a file of the checkpoint, or for a segment.
+fn word_of(in_checkpoint: bool) -> &'static str
+    ensures { result.now ≡ file_word in_checkpoint }
+{
+    if in_checkpoint {
+        "checkpoint"
+    } else {
+        "segment"
+    }
 }
 
 // Adds which file it is.
@@ -73,13 +108,11 @@ fn put_name(
     alloc: Global,
     in_checkpoint: bool,
     number: u64,
-) -> Result<(), AllocError> {
-    let file = if in_checkpoint {
-        "checkpoint"
-    } else {
-        "segment"
-    };
-    put(members, alloc, "file", Value::try_from_str(alloc, file)?)?;
+) -> Result<(), AllocError>
+    ensures { OnOk result (members_view members.new.entries ≡ with_members (name_members in_checkpoint number) (members_view members.old.entries)) }
+{
+    let file = Value::try_from_str(alloc, word_of(in_checkpoint))?;
+    put(members, alloc, "file", file)?;
     put(members, alloc, "number", Value::from(number))
 }
 
@@ -88,17 +121,15 @@ fn put_survey(
     members: &mut Map<String, Value>,
     alloc: Global,
     survey: &Survey,
-) -> Result<(), AllocError> {
+) -> Result<(), AllocError>
+    ensures { OnOk result (members_view members.new.entries ≡ with_members (survey_members survey.now) (members_view members.old.entries)) }
+{
     put_counts(members, alloc, survey.series, survey.samples, survey.stones)?;
-    let skipped = skipped_value(alloc, &survey.skipped)?;
+    let skipped = all_skipped_value(alloc, &survey.skipped)?;
     put(members, alloc, "skipped", skipped)?;
     put_times(members, alloc, survey.times)?;
-    put(
-        members,
-        alloc,
-        "damage",
-        damage_value(alloc, survey.damage)?,
-    )
+    let damage = damage_value(alloc, survey.damage)?;
+    put(members, alloc, "damage", damage)
 }
 
 // Adds the members of a file.
@@ -106,34 +137,37 @@ fn put_file(
     members: &mut Map<String, Value>,
     alloc: Global,
     file: &FileSurvey,
-) -> Result<(), AllocError> {
+) -> Result<(), AllocError>
+    ensures { OnOk result (members_view members.new.entries ≡ with_members (file_members file.now) (members_view members.old.entries)) }
+{
     put_name(members, alloc, file.in_checkpoint, file.number)?;
     put_size(members, alloc, file.bytes, file.pages)?;
     put_survey(members, alloc, &file.survey)?;
-    let unpacked = file.unpacked.map_or(Value::Null, Value::from);
-    put(members, alloc, "unpacked", unpacked)
+    put(members, alloc, "unpacked", Value::from(file.unpacked))
 }
 
-fn file_value(alloc: Global, file: &FileSurvey) -> Result<Value, AllocError> {
+fn file_value(alloc: Global, file: &FileSurvey) -> Result<Value, AllocError>
+    ensures { IfOk result (λ v. view v ≡ file_data file.now) }
+{
     let mut members = Map::new(alloc);
     put_file(&mut members, alloc, file)?;
-    Ok(Value::Object(members))
+    Ok(Value::from(members))
 }
 
-fn files_value(alloc: Global, files: &[FileSurvey]) -> Result<Value, AllocError> {
+fn files_value(alloc: Global, files: &[FileSurvey]) -> Result<Value, AllocError>
+    ensures { IfOk result (λ v. view v ≡ array_of file_data files.now) }
+{
     let mut list = Vec::new(alloc);
     for file in files {
         list.push(file_value(alloc, file)?)?;
     }
-    Ok(Value::Array(list))
+    Ok(Value::from(list))
 }
 
 // Adds the members of all files together.
-fn put_sums(
-    members: &mut Map<String, Value>,
-    alloc: Global,
-    sums: &Sums,
-) -> Result<(), AllocError> {
+fn put_sums(members: &mut Map<String, Value>, alloc: Global, sums: &Sums) -> Result<(), AllocError>
+    ensures { OnOk result (members_view members.new.entries ≡ with_members (sums_members sums.now) (members_view members.old.entries)) }
+{
     put(members, alloc, "files", Value::from(sums.files))?;
     put_size(members, alloc, sums.bytes, sums.pages)?;
     put_counts(members, alloc, sums.series, sums.samples, sums.stones)?;
@@ -141,24 +175,30 @@ fn put_sums(
     put_times(members, alloc, sums.times)
 }
 
-fn sums_value(alloc: Global, sums: &Sums) -> Result<Value, AllocError> {
+fn sums_value(alloc: Global, sums: &Sums) -> Result<Value, AllocError>
+    ensures { IfOk result (λ v. view v ≡ object (with_members (sums_members sums.now) no_members)) }
+{
     let mut members = Map::new(alloc);
     put_sums(&mut members, alloc, sums)?;
-    Ok(Value::Object(members))
+    Ok(Value::from(members))
 }
 
-fn note_value(alloc: Global, remark: &Remark) -> Result<Value, AllocError> {
+fn note_value(alloc: Global, remark: &Remark) -> Result<Value, AllocError>
+    ensures { IfOk result (λ v. (text : List ℕ) × (view v ≡ string text)) }
+{
     let mut text = String::new(alloc);
     push_remark(&mut text, remark)?;
-    Ok(Value::String(text))
+    Ok(Value::from(text))
 }
 
-fn notes_value(alloc: Global, remarks: &[Remark]) -> Result<Value, AllocError> {
+fn notes_value(alloc: Global, remarks: &[Remark]) -> Result<Value, AllocError>
+    ensures { IfOk result (λ v. (notes : List (List ℕ)) × (length notes ≡ length remarks.now) × (view v ≡ array_of string notes)) }
+{
     let mut list = Vec::new(alloc);
     for remark in remarks {
         list.push(note_value(alloc, remark)?)?;
     }
-    Ok(Value::Array(list))
+    Ok(Value::from(list))
 }
 
 // Adds the files, all of them together, and the remarks.
@@ -166,12 +206,30 @@ fn put_all(
     members: &mut Map<String, Value>,
     alloc: Global,
     files: &[FileSurvey],
+    sums: &Sums,
     remarks: &[Remark],
-) -> Result<(), AllocError> {
+) -> Result<(), AllocError>
+    ensures { OnOk result ((notes : List (List ℕ)) × (length notes ≡ length remarks.now)
+        × (members_view members.new.entries ≡ with_members (document_members files.now sums.now notes) (members_view members.old.entries))) }
+{
     put(members, alloc, "files", files_value(alloc, files)?)?;
-    let sums = sums_of(files)?;
-    put(members, alloc, "all", sums_value(alloc, &sums)?)?;
+    put(members, alloc, "all", sums_value(alloc, sums)?)?;
     put(members, alloc, "notes", notes_value(alloc, remarks)?)
+}
+
+// Returns the document as a value.
+fn document_value(
+    alloc: Global,
+    files: &[FileSurvey],
+    sums: &Sums,
+    remarks: &[Remark],
+) -> Result<Value, AllocError>
+    ensures { IfOk result (λ v. (notes : List (List ℕ)) × (length notes ≡ length remarks.now)
+        × (view v ≡ object (with_members (document_members files.now sums.now notes) no_members))) }
+{
+    let mut members = Map::new(alloc);
+    put_all(&mut members, alloc, files, sums, remarks)?;
+    Ok(Value::from(members))
 }
 
 /// Returns one JSON document: the figures of each file of a log, those of all of them, and the text of each remark.
@@ -179,10 +237,13 @@ pub(crate) fn inspection_document(
     alloc: Global,
     inspection: &Inspection,
     remarks: &[Remark],
-) -> Result<String, AllocError> {
-    let mut members = Map::new(alloc);
-    put_all(&mut members, alloc, inspection.files.as_slice(), remarks)?;
-    let mut text = Value::Object(members).to_string(alloc)?;
+) -> Result<String, AllocError>
+    ensures { IfOk result (λ text. IsDocument inspection.now remarks.now (string_bytes text)) }
+{
+    let files = inspection.files.as_slice();
+    let sums = sums_of(files)?;
+    let document = document_value(alloc, files, &sums, remarks)?;
+    let mut text = document.to_string(alloc)?;
     text.push('\n')?;
     Ok(text)
 }

@@ -1,9 +1,9 @@
 //! What the figures of a log may mean: remarks.
 
-ghost use Rattle.std.specs.Prelude.{◌≡◌, ◌↔◌, ◌^◌, Contains, [], IfNone, IfOk, IfSome, OnOk, Some, length};
+ghost use Rattle.std.specs.Prelude.{◌≡◌, ◌↔◌, ◌^◌, ◌++◌, Contains, [], IfNone, IfOk, IfSome, OnOk};
 ghost use Rattle.wal_log.specs.Inputs.{following};
-ghost use Rattle.survey_commands.specs.Remarks.{Holds, HoldsBelow, file_of as file_named, first_segment};
-ghost use Rattle.survey_commands.specs.Remarking.{AddsTo, blank_remark, damage_remark, file_remark, first_remark, log_remark, passed_remark, unbound_remark};
+ghost use Rattle.survey_commands.specs.Remarks.{AreInOrder, Holds, are_read as are_all_read, file_of as file_named, first_segment, has_checkpoint_file as has_file_in_checkpoint, hides_records as may_hide_records, is_torn as is_torn_end};
+ghost use Rattle.survey_commands.specs.Remarking.{blank_remark, checkpoint_remark, damage_remark, empty_remark, file_remark, file_remarks, first_remark, log_remark, passed_remark, some_of, unbound_remark};
 
 use log_inspection::{FileSurvey, Inspection};
 use log_references::{Unbound, UnboundReference};
@@ -47,11 +47,15 @@ pub enum Remark {
     NoneBehind {
         next: u64,
     },
+    /// The directory of this checkpoint, which is the newest, has no file.
+    EmptyCheckpoint {
+        checkpoint: u64,
+    },
     /// So many segments are not past the checkpoint, and are not read.
     PassedOver {
         segments: u64,
     },
-    /// A file before the last one has no bytes.
+    /// A file of the checkpoint before its last one has no bytes.
     Empty(NumberedFile),
     /// A file before the last one has zeros alone.
     Zeros(NumberedFile),
@@ -61,10 +65,12 @@ pub enum Remark {
     Compressed(Damage),
     /// A file is damaged in another way.
     Damaged(Damage),
-    /// So many references of samples are bound by no series entry of the log, and this is the first of them.
+    /// So many references of samples are bound by no series entry that was read, and this is the first of them. `all_read` says whether
+    /// damage hides no record: not if a file but the last has damage, or the last has any but a torn end.
     UnboundReferences {
         references: u64,
         first: UnboundReference,
+        all_read: bool,
     },
 }
 
@@ -89,28 +95,44 @@ fn of_damage(damage: Damage, is_last: bool) -> Remark
     }
 }
 
-// Returns the remark on a file without damage, which is the last one or not, if there is one.
-fn of_blank(file: &FileSurvey, is_last: bool) -> Option<Remark>
-    ensures { result ≡ blank_remark file.now is_last }
+// Returns whether one of the files is the checkpoint's.
+fn has_checkpoint_file(files: &[FileSurvey]) -> bool
+    ensures { result ≡ has_file_in_checkpoint files.now }
 {
-    if is_last {
-        None
-    } else if file.bytes == 0 {
+    files.iter().any(|file| file.in_checkpoint)
+}
+
+// Returns the remark on a file of no bytes, if there is one. A server leaves an empty segment at each start without writes.
+fn of_empty(file: &FileSurvey, later: &[FileSurvey]) -> Option<Remark>
+    ensures { result ≡ empty_remark file.now later.now }
+{
+    if file.in_checkpoint && has_checkpoint_file(later) {
         Some(Remark::Empty(file_of(file)))
-    } else if file.is_zeros {
+    } else {
+        None
+    }
+}
+
+// Returns the remark on a file without damage, behind which come these files, if there is one.
+fn of_blank(file: &FileSurvey, later: &[FileSurvey]) -> Option<Remark>
+    ensures { result ≡ blank_remark file.now later.now }
+{
+    if file.bytes == 0 {
+        of_empty(file, later)
+    } else if file.is_zeros && !later.is_empty() {
         Some(Remark::Zeros(file_of(file)))
     } else {
         None
     }
 }
 
-// Returns the remark on a file, which is the last one or not, if there is one.
-fn of_file(file: &FileSurvey, is_last: bool) -> Option<Remark>
-    ensures { result ≡ file_remark file.now is_last }
+// Returns the remark on a file, behind which come these files, if there is one.
+fn of_file(file: &FileSurvey, later: &[FileSurvey]) -> Option<Remark>
+    ensures { result ≡ file_remark file.now later.now }
 {
     match file.survey.damage {
-        Some(damage) => Some(of_damage(damage, is_last)),
-        None => of_blank(file, is_last),
+        Some(damage) => Some(of_damage(damage, later.is_empty())),
+        None => of_blank(file, later),
     }
 }
 
@@ -135,12 +157,14 @@ fn first_number(files: &[FileSurvey]) -> Option<u64>
         .map(|file| file.number)
 }
 
-// Returns the remark on the number of the first segment, if there is one: by `from`, the number behind the checkpoint.
-fn of_first(from: u64, first: Option<u64>) -> Option<Remark>
-    ensures { result ≡ first_remark from first }
+// Returns the remark on the number of the first segment, if there is one: by `from`, the number behind the checkpoint, unless the first
+// may have any number.
+fn of_first(from: u64, is_any: bool, first: Option<u64>) -> Option<Remark>
+    ensures { result ≡ first_remark from is_any first }
 {
     match first {
         None => Some(Remark::NoneBehind { next: from }),
+        Some(_) if is_any => None,
         Some(first) if from < first => Some(Remark::SegmentsMissing { from, first }),
         Some(_) => None,
     }
@@ -157,7 +181,19 @@ fn of_log(inspection: &Inspection) -> Option<Remark>
     }
     let first = first_number(files);
     let from = number_behind(inspection.checkpoint)?;
-    of_first(from, first)
+    of_first(from, inspection.is_wbl, first)
+}
+
+// Returns the remark on the checkpoint's directory, if there is one.
+fn of_checkpoint(checkpoint: Option<u64>, files: &[FileSurvey]) -> Option<Remark>
+    ensures { result ≡ checkpoint_remark checkpoint files.now }
+{
+    let checkpoint = checkpoint?;
+    if has_checkpoint_file(files) {
+        None
+    } else {
+        Some(Remark::EmptyCheckpoint { checkpoint })
+    }
 }
 
 // Returns the remark on segments that are not past the checkpoint, if there are some.
@@ -171,19 +207,56 @@ fn of_passed(segments: u64) -> Option<Remark>
     }
 }
 
-// Returns the remark on references that are not bound, if there is one.
-fn of_unbound(unbound: Unbound) -> Option<Remark>
-    ensures { result ≡ unbound_remark unbound }
+// Returns whether a file ends inside a record.
+fn is_torn(kind: FaultKind) -> bool
+    ensures { result ≡ is_torn_end kind }
 {
-    let references = unbound.references;
-    unbound
-        .first
-        .map(|first| Remark::UnboundReferences { references, first })
+    matches!(kind, FaultKind::Torn)
+}
+
+// Returns whether damage of a file, which is the last one or not, may hide records.
+fn hides_records(damage: Option<Damage>, is_last: bool) -> bool
+    ensures { result ≡ may_hide_records damage is_last }
+{
+    match damage {
+        None => false,
+        Some(damage) => !(is_last && is_torn(damage.kind)),
+    }
+}
+
+// Returns whether all records of the files were read.
+fn are_read(files: &[FileSurvey]) -> bool
+    ensures { result ≡ are_all_read files.now }
+{
+    for at in 0..files.len() {
+        let (_, later) = files.split_at(at + 1);
+        if hides_records(files[at].survey.damage, later.is_empty()) {
+            return false;
+        }
+    }
+    true
+}
+
+// Returns the remark on references that are not bound in these files, if there is one. In a `wbl` there is none: its references are bound in
+// the directory `wal`, elsewhere.
+fn of_unbound(unbound: Unbound, is_elsewhere: bool, files: &[FileSurvey]) -> Option<Remark>
+    ensures { result ≡ unbound_remark unbound is_elsewhere files.now }
+{
+    if is_elsewhere {
+        return None;
+    }
+    let Unbound { references, first } = unbound;
+    let all_read = are_read(files);
+    first.map(|first| Remark::UnboundReferences {
+        references,
+        first,
+        all_read,
+    })
 }
 
 // Adds a remark, if there is one.
 fn add(told: &mut Vec<Remark>, remark: Option<Remark>) -> Result<(), AllocError>
-    ensures { OnOk result (AddsTo told.old.items told.new.items (λ r. remark ≡ Some r)) }
+    ensures { OnOk result (told.new.items ≡ told.old.items ++ some_of remark) }
 {
     if let Some(remark) = remark {
         told.push(remark)?;
@@ -193,26 +266,29 @@ fn add(told: &mut Vec<Remark>, remark: Option<Remark>) -> Result<(), AllocError>
 
 // Adds the remarks on files, one after another.
 fn add_of_files(told: &mut Vec<Remark>, files: &[FileSurvey]) -> Result<(), AllocError>
-    ensures { OnOk result (AddsTo told.old.items told.new.items (HoldsBelow (length files.now) files.now)) }
+    ensures { OnOk result (told.new.items ≡ told.old.items ++ file_remarks files.now) }
 {
-    let count = files.len();
-    for at in 0..count {
-        let is_last = at + 1 == count;
-        add(told, of_file(&files[at], is_last))?;
+    for at in 0..files.len() {
+        let (_, later) = files.split_at(at + 1);
+        add(told, of_file(&files[at], later))?;
     }
     Ok(())
 }
 
-/// Returns the remarks on a log: on its files as a whole, then on segments that are not past the checkpoint, then on each file, in order, then
-/// on references that are not bound.
+/// Returns the remarks on a log: on its files as a whole, on the checkpoint's directory, on segments that are not past the checkpoint, on
+/// each file, in order, and on references that are not bound.
 pub fn remarks_on(alloc: Global, inspection: &Inspection) -> Result<Vec<Remark>, AllocError>
-    ensures { IfOk result (λ told. (r : Remark) → (Contains told.items r) ↔ (Holds inspection.now r)) }
+    ensures told { IfOk result (λ told. (r : Remark) → (Contains told.items r) ↔ (Holds inspection.now r)) }
+    ensures order { IfOk result (λ told. AreInOrder inspection.now.files.items told.items) }
 {
+    let files = inspection.files.as_slice();
     let mut told = Vec::new(alloc);
     add(&mut told, of_log(inspection))?;
+    add(&mut told, of_checkpoint(inspection.checkpoint, files))?;
     add(&mut told, of_passed(inspection.passed_over))?;
-    add_of_files(&mut told, inspection.files.as_slice())?;
-    add(&mut told, of_unbound(inspection.unbound))?;
+    add_of_files(&mut told, files)?;
+    let unbound = of_unbound(inspection.unbound, inspection.is_wbl, files);
+    add(&mut told, unbound)?;
     Ok(told)
 }
 

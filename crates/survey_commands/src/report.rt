@@ -16,10 +16,11 @@ fn file_at(place: Place) -> NumberedFile {
     }
 }
 
-// Appends a time in milliseconds, and as a date and time of day in UTC, or `none` if it is past the years of the calendar.
+// Appends a time in milliseconds, and as a date and time of day in UTC with three decimals, or `none` if it is past the years of the
+// calendar.
 fn push_time(text: &mut String, time: i64) -> Result<(), AllocError> {
     match Timestamp::from_millisecond(time) {
-        Ok(moment) => write!(text, " {time} {moment}")?,
+        Ok(moment) => write!(text, " {time} {moment:.3}")?,
         Err(_) => write!(text, " {time} none")?,
     }
     Ok(())
@@ -134,6 +135,15 @@ fn push_none_behind(text: &mut String, next: u64) -> Result<(), AllocError> {
     Ok(())
 }
 
+// Appends that the checkpoint's directory has no file.
+fn push_empty_checkpoint(text: &mut String, checkpoint: u64) -> Result<(), AllocError> {
+    write!(
+        text,
+        "checkpoint.{checkpoint:08} has no file: what it held may be lost"
+    )?;
+    Ok(())
+}
+
 // Appends that segments are not past the checkpoint.
 fn push_passed(text: &mut String, segments: u64) -> Result<(), AllocError> {
     let (are, them) = if segments == 1 {
@@ -170,28 +180,47 @@ fn push_found(
     Ok(())
 }
 
+// Appends how many references are not bound.
+fn push_many(text: &mut String, references: u64, all_read: bool) -> Result<(), AllocError> {
+    let noun = if references == 1 {
+        "reference"
+    } else {
+        "references"
+    };
+    let record = if all_read {
+        "no series record"
+    } else {
+        "no series record of those that were read"
+    };
+    write!(text, "samples name {references} {noun} that {record} binds")?;
+    if references == 1 {
+        return text.push_str(",");
+    }
+    text.push_str(", the first,")
+}
+
 // Appends that samples name references that are not bound.
 fn push_unbound(
     text: &mut String,
     references: u64,
     first: UnboundReference,
+    all_read: bool,
 ) -> Result<(), AllocError> {
-    let many = if references == 1 {
-        "reference that no series record binds,"
+    push_many(text, references, all_read)?;
+    let UnboundReference { reference, place } = first;
+    let (file, offset) = (file_at(place), place.offset);
+    write!(text, " {reference}, in {file} at {offset}: ")?;
+    text.push_str(if all_read {
+        "they are lost in a replay"
     } else {
-        "references that no series record binds, the first,"
-    };
-    write!(text, "samples name {references} {many} {}", first.reference)?;
-    let file = file_at(first.place);
-    let offset = first.place.offset;
-    write!(text, ", in {file} at {offset}: they are lost in a replay")?;
-    Ok(())
+        "one that was not read may bind them"
+    })
 }
 
 const TORN: &str = "as a crash leaves it, and that record is lost";
 
 const COMPRESSED: &str =
-    "it was not read, nor what follows in the file: `unpack` reads such records";
+    "it was not read, nor what follows in the file: `unpack` reads such records, if Snappy compressed them";
 
 const DAMAGED: &str = "what follows in the file was not read";
 
@@ -201,6 +230,7 @@ pub(crate) fn push_remark(text: &mut String, remark: &Remark) -> Result<(), Allo
         Remark::NoLog { has_wal } => push_no_log(text, *has_wal),
         Remark::SegmentsMissing { from, first } => push_missing(text, *from, *first),
         Remark::NoneBehind { next } => push_none_behind(text, *next),
+        Remark::EmptyCheckpoint { checkpoint } => push_empty_checkpoint(text, *checkpoint),
         Remark::PassedOver { segments } => push_passed(text, *segments),
         Remark::Empty(file) => push_blank(text, *file, "is empty"),
         Remark::Zeros(file) => push_blank(text, *file, "has only zeros"),
@@ -209,7 +239,11 @@ pub(crate) fn push_remark(text: &mut String, remark: &Remark) -> Result<(), Allo
             push_found(text, *damage, "has a compressed record", COMPRESSED)
         }
         Remark::Damaged(damage) => push_found(text, *damage, "is damaged", DAMAGED),
-        Remark::UnboundReferences { references, first } => push_unbound(text, *references, *first),
+        Remark::UnboundReferences {
+            references,
+            first,
+            all_read,
+        } => push_unbound(text, *references, *first, *all_read),
     }
 }
 

@@ -1,9 +1,11 @@
-use Rattle.std.proofs.Common.{rules, ◌≡◌, map, subst}
+use Rattle.std.proofs.Common.{rules, ◌≡◌, [], ℤ, map, subst, w64}
 use Rattle.wal_log.specs.declared.plan.Named.{Named}
 use Rattle.std.specs.Prelude.{string_bytes}
+use Rattle.std.proofs.lemmas.Int.{to_z-of_z}
 use Rattle.std.specs.Option.{option_map}
 use Rattle.std.specs.List.{count_by, list_any}
 use Rattle.wal_log.specs.Plan.{IsDirPlan, named as name_of}
+use Rattle.log_references.specs.Unbound.{AreReferencesOf}
 use Rattle.prom_store.specs.Views.{view_of}
 use Rattle.log_inspection.specs.Inspections.{is_passed_over, is_wal}
 use Rattle.log_inspection.proofs.Surveyed.{inspected}
@@ -13,11 +15,12 @@ pub returns : goal.returns
 returns g c =
     let plan = c.in_ok-plan.plan in
     let checkpoint : c.map-checkpoint.result ≡ option_map (λ (n : Named). n.number) plan.checkpoint = search rules in
-    inspected (view_of (g.S.Store.holds c.args.store.now)) c.args.dir.now c.in_ok-names.names.items plan _ c.new-references.result c.survey_planned.new.references c.in_ok-names.ensures
+    inspected (view_of (g.S.Store.holds c.args.store.now)) c.args.dir.now c.args.min_valid c.in_ok-names.names.items plan _ c.new-references.result c.survey_planned.new.references c.in_ok-names.ensures
     (subst (λ names. IsDirPlan (map string_bytes names) (option_map name_of plan.checkpoint) (map name_of plan.segments)) c.deref.ensures.value c.in_ok-plan.ensures)
     checkpoint
     c.in_ok-files.ensures
-    c.new-references.ensures
+    (subst (λ (m : ℤ). AreReferencesOf m [] c.new-references.result) (to_z-of_z w64 c.args.min_valid c.ranges.min_valid) c.new-references.ensures)
     c.unbound.ensures
     (subst (λ names. c.passed_over.result ≡ count_by (λ name. is_passed_over c.map-checkpoint.result (string_bytes name)) names) c.deref-2.ensures.value c.passed_over.ensures)
     (subst (λ names. c.has_wal.result ≡ list_any (λ name. is_wal (string_bytes name)) names) c.deref-3.ensures.value c.has_wal.ensures)
+    c.is_wbl.ensures

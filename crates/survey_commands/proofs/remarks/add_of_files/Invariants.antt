@@ -1,7 +1,7 @@
-use Rattle.survey_commands.specs.Remarks.{HoldsBelow}
-use Rattle.survey_commands.specs.Remarking.{AddsTo}
+use Rattle.std.proofs.Common.{◌≡◌, ◌++◌, drop}
+use Rattle.survey_commands.specs.Remarking.{file_remarks}
 use Rattle.survey_commands.proofs.remarks.add_of_files.Given as goal
 
--- the remarks on the files so far are added
+-- the remarks so far, and those on the files that are left
 abbrev pub invariant-loop-at : goal.invariant-loop-at
-invariant-loop-at l = AddsTo l.initial.told.items l.told.items (HoldsBelow l.at l.files)
+invariant-loop-at l = l.told.items ++ file_remarks (drop l.at l.files) ≡ l.initial.told.items ++ file_remarks l.files
