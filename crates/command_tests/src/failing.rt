@@ -127,6 +127,7 @@ const INSPECT: Case = Case {
     asked: Asked::Inspect(InspectRequest {
         dir: "log",
         json: false,
+        min_valid: i64::MIN,
     }),
     ..RECORDS
 };

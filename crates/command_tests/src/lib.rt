@@ -1,4 +1,4 @@
-//! Tests of the program's commands over a store in memory of which a call can fail, over one that notes its calls, of the store of real files, of what a terminal is told, of the blocks in a data directory,
+//! Tests of the program's commands over a store in memory of which a call can fail, over one that notes its calls, over a list of files, of the store of real files, of what a terminal is told, of the blocks in a data directory,
 //! and of how a command line says that a log is to be replayed. What whole runs print and leave is in examples/cases.
 #![tactic(auto)]
 
@@ -16,6 +16,12 @@ mod folders;
 mod fragments;
 #[cfg(test)]
 mod least;
+mod listed;
+mod listing;
+#[cfg(test)]
+mod lists;
+#[cfg(test)]
+mod many;
 #[cfg(test)]
 mod meters;
 #[cfg(test)]
@@ -23,13 +29,19 @@ mod noted;
 mod noted_call;
 #[cfg(test)]
 mod options;
+mod outlasts;
 #[cfg(test)]
 mod runs;
 #[cfg(test)]
 mod shelf;
 #[cfg(test)]
+mod short_writes;
+#[cfg(test)]
 mod stores;
 #[cfg(test)]
 mod tree;
 
+pub use listed::Listed;
+pub use listing::{Listing, ListingWriter};
 pub use noted_call::NotedCall;
+pub use outlasts::{Outcome, append, cut, make_checkpoint, unpack};

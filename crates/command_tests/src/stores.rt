@@ -158,12 +158,14 @@ fn store_of_real_files(rt: HostRuntime) -> Result<(), Fail> {
     Ok(())
 }
 
-// So many bytes, which repeat after 251.
-fn bytes_of(alloc: Global, length: u32) -> Result<Vec<u8>, AllocError> {
-    (0..length).map(|i| (i % 251) as u8).collect(alloc)
+// So many bytes from this one on, which repeat after 251.
+fn bytes_of(alloc: Global, first: u32, length: u32) -> Result<Vec<u8>, AllocError> {
+    (0..length)
+        .map(|i| (i.wrapping_add(first) % 251) as u8)
+        .collect(alloc)
 }
 
-// Makes a file of each length in a directory, and gives the paths and the bytes.
+// Makes a file of each length in a directory, which begins with its own number, and gives the paths and the bytes.
 fn make_files(
     rt: &HostRuntime,
     dir: &str,
@@ -171,9 +173,9 @@ fn make_files(
 ) -> Result<(Vec<String>, Vec<Vec<u8>>), Fail> {
     let alloc = rt.alloc();
     let (mut paths, mut files) = (Vec::new(alloc), Vec::new(alloc));
-    for length in lengths {
-        let path = format!(in alloc; "{dir}/{length}")?;
-        let bytes = bytes_of(alloc, *length)?;
+    for (number, length) in (0..).zip(lengths) {
+        let path = format!(in alloc; "{dir}/{number}")?;
+        let bytes = bytes_of(alloc, number, *length)?;
         fs::write(rt, &path, &bytes)?;
         paths.push(path)?;
         files.push(bytes)?;
@@ -193,6 +195,7 @@ fn files_side_by_side(rt: HostRuntime) -> Result<(), Fail> {
         [9_000_001, 0, 70_000].as_slice(),
         [9_000_001].as_slice(),
         [].as_slice(),
+        [1_000; 21].as_slice(),
     ] {
         let (mut paths, wanted) = make_files(&rt, &dir, lengths)?;
         let found = disk.read_files(alloc, &paths);
@@ -303,7 +306,7 @@ fn failing_read(rt: HostRuntime) {
 // Read by more than one call, whatever length is told.
 #[test]
 fn long_read(rt: HostRuntime) -> Result<(), StoreFault> {
-    let bytes = bytes_of(rt.alloc(), 200_000)?;
+    let bytes = bytes_of(rt.alloc(), 0, 200_000)?;
     for length in [0, 1, 65_536, 199_999, 200_000, 200_001, 1_000_000] {
         let read = read_whole(rt.alloc(), &mut bytes.as_slice(), length)?;
         same(&rt, length, read.as_slice() == bytes.as_slice(), true);
@@ -321,7 +324,7 @@ fn length_past_memory(rt: HostRuntime) {
 // A reader that gives one byte a call is read to its end, and is refused where its third call fails.
 #[test]
 fn many_reads(rt: HostRuntime) -> Result<(), StoreFault> {
-    let bytes = bytes_of(rt.alloc(), 100_000)?;
+    let bytes = bytes_of(rt.alloc(), 0, 100_000)?;
     for (fails_at, wanted) in [(0, Ok(100_000)), (3, Err(UNSAID))] {
         let mut reader = Faulty {
             rest: bytes.as_slice(),

@@ -127,10 +127,10 @@ fn long_records_are_decoded_and_resolved(rt: HostRuntime) -> Result<(), Fail> {
     outcome
 }
 
-// 200 samples of one series, a record that is skipped, and 300 samples that name no series.
+// 500 samples of one series, a record that is skipped, and 300 samples that name no series.
 fn mixed(alloc: Global) -> Result<Vec<WalRecord>, AllocError> {
     let mut records = Vec::new(alloc);
-    records.push(samples(alloc, 0, 0, 200)?)?;
+    records.push(samples(alloc, 0, 0, 500)?)?;
     records.push(WalRecord::Other(Some(9)))?;
     records.push(samples(alloc, 7, 0, 300)?)?;
     Ok(records)
@@ -146,7 +146,7 @@ fn check_reserved(rt: &impl Abort, alloc: Global, head: &mut Head) -> Result<(),
         sample_records: 2,
         skipped_records: 1,
         series_entries: 1,
-        accepted: 200,
+        accepted: 500,
         unknown: 300,
         ..NOTHING
     };
