@@ -180,7 +180,8 @@ def record_of(parts):
     marks, joined = {mark for mark, _ in parts}, b"".join(here for _, here in parts)
     if len(marks) > 1:
         raise Bad("only a part of a record is marked as compressed")
-    plain = plain_of(joined) if True in marks else joined
+    # a mark without any byte is the record of no bytes, as a server reads it
+    plain = plain_of(joined) if True in marks and joined else joined
     if not is_record(plain):
         raise Bad(kind("BadRecord"))
     return plain
