@@ -14,7 +14,9 @@ use Rattle.hw_bytes.proofs.Fixed.{fixed_code}
 use Rattle.hw_bytes.proofs.Groups.{uvarint_code}
 use Rattle.std.proofs.Common.{lit<}
 use Rattle.block_text.specs.Sums.{Text, sum_text}
-use Rattle.block_files.specs.Files.{BeginsWith, StandsAt, encoding}
+use Rattle.block_files.specs.declared.encoding.Encoding.{Encoding}
+use Rattle.block_files.specs.declared.encoding.Encoding.TheVariants.{Raw, Xor}
+use Rattle.block_files.specs.Files.{BeginsWith, StandsAt, encoding_byte}
 
 pub if_none : {Y : Type 0} (o : Option Y) {Q : Type 0} → Q → IfNone o Q
 if_none None q = q
@@ -28,32 +30,32 @@ regrouped : (a b c d : List ℕ) → ((a ++ b) ++ c) ++ d ≡ a ++ (b ++ (c ++ d
 regrouped a b c d = append_assoc (a ++ b) c d ∙ append_assoc a b (c ++ d)
 
 -- the bytes of a chunk behind its length
-pub record Behind (behind body : Text) : Type 0 where
+pub record Behind (enc : Encoding) (behind body : Text) : Type 0 where
   pub rest : Text
-  pub whole : behind ≡ (encoding ∷ body) ++ (sum_text (encoding ∷ body) ++ rest)
+  pub whole : behind ≡ (encoding_byte enc ∷ body) ++ (sum_text (encoding_byte enc ∷ body) ++ rest)
 
 -- its length is the one that was read
-pub behind_length : (bytes behind body : Text) (len start : ℕ) → IsAt IsUvarint bytes len start → behind ≡ drop start bytes → BeginsWith bytes body → (len ≡ length body) × Behind behind body
-behind_length bytes behind body len start at i h =
-    let a = after IsUvarint uvarint_code.one bytes h.spelled ((encoding ∷ body) ++ (sum_text (encoding ∷ body) ++ h.rest)) len (length body) start at h.is_length
-    (h.whole ∙ regrouped h.spelled (encoding ∷ body) (sum_text (encoding ∷ body)) h.rest) in
+pub behind_length : (enc : Encoding) (bytes behind body : Text) (len start : ℕ) → IsAt IsUvarint bytes len start → behind ≡ drop start bytes → BeginsWith enc bytes body → (len ≡ length body) × Behind enc behind body
+behind_length enc bytes behind body len start at i h =
+    let a = after IsUvarint uvarint_code.one bytes h.spelled ((encoding_byte enc ∷ body) ++ (sum_text (encoding_byte enc ∷ body) ++ h.rest)) len (length body) start at h.is_length
+    (h.whole ∙ regrouped h.spelled (encoding_byte enc ∷ body) (sum_text (encoding_byte enc ∷ body)) h.rest) in
     (a.0, record { rest = h.rest; whole = i ∙ a.1 })
 
-pub no_length : (bytes body : Text) → IsNowhere IsUvarint bytes → BeginsWith bytes body → ⊥
-no_length bytes body none h = none h.spelled ((encoding ∷ body) ++ (sum_text (encoding ∷ body) ++ h.rest)) (length body) h.is_length (h.whole ∙ regrouped h.spelled (encoding ∷ body) (sum_text (encoding ∷ body)) h.rest)
+pub no_length : (enc : Encoding) (bytes body : Text) → IsNowhere IsUvarint bytes → BeginsWith enc bytes body → ⊥
+no_length enc bytes body none h = none h.spelled ((encoding_byte enc ∷ body) ++ (sum_text (encoding_byte enc ∷ body) ++ h.rest)) (length body) h.is_length (h.whole ∙ regrouped h.spelled (encoding_byte enc ∷ body) (sum_text (encoding_byte enc ∷ body)) h.rest)
 
-pub behind_long : (behind body : Text) (len : ℕ) → len ≡ length body → Behind behind body → len < length behind
-behind_long behind body len e h = omega (arith, e, ap length h.whole, length-append (encoding ∷ body) (sum_text (encoding ∷ body) ++ h.rest))
+pub behind_long : (enc : Encoding) (behind body : Text) (len : ℕ) → len ≡ length body → Behind enc behind body → len < length behind
+behind_long enc behind body len e h = omega (arith, e, ap length h.whole, length-append (encoding_byte enc ∷ body) (sum_text (encoding_byte enc ∷ body) ++ h.rest))
 
-pub behind_summed : (behind summed body : Text) (len : ℕ) → len ≡ length body → summed ≡ take (len + 1) behind → Behind behind body → summed ≡ encoding ∷ body
-behind_summed behind summed body len e i h =
-    let n : length (encoding ∷ body) ≡ len + 1 = omega (arith, e) in
-    i ∙ ap (take (len + 1)) h.whole ∙ take_at (encoding ∷ body) (sum_text (encoding ∷ body) ++ h.rest) (len + 1) n
+pub behind_summed : (enc : Encoding) (behind summed body : Text) (len : ℕ) → len ≡ length body → summed ≡ take (len + 1) behind → Behind enc behind body → summed ≡ encoding_byte enc ∷ body
+behind_summed enc behind summed body len e i h =
+    let n : length (encoding_byte enc ∷ body) ≡ len + 1 = omega (arith, e) in
+    i ∙ ap (take (len + 1)) h.whole ∙ take_at (encoding_byte enc ∷ body) (sum_text (encoding_byte enc ∷ body) ++ h.rest) (len + 1) n
 
-pub behind_sum : (behind rest body : Text) (len : ℕ) → len ≡ length body → rest ≡ drop (len + 1) behind → (h : Behind behind body) → rest ≡ sum_text (encoding ∷ body) ++ h.rest
-behind_sum behind rest body len e i h =
-    let n : length (encoding ∷ body) ≡ len + 1 = omega (arith, e) in
-    i ∙ ap (drop (len + 1)) h.whole ∙ drop_at (encoding ∷ body) (sum_text (encoding ∷ body) ++ h.rest) (len + 1) n
+pub behind_sum : (enc : Encoding) (behind rest body : Text) (len : ℕ) → len ≡ length body → rest ≡ drop (len + 1) behind → (h : Behind enc behind body) → rest ≡ sum_text (encoding_byte enc ∷ body) ++ h.rest
+behind_sum enc behind rest body len e i h =
+    let n : length (encoding_byte enc ∷ body) ≡ len + 1 = omega (arith, e) in
+    i ∙ ap (drop (len + 1)) h.whole ∙ drop_at (encoding_byte enc ∷ body) (sum_text (encoding_byte enc ∷ body) ++ h.rest) (len + 1) n
 
 fixed_four : (f r g s : List ℕ) (x y : ℕ) → IsFixed 4 f x → IsFixed 4 g y → f ++ r ≡ g ++ s → (x ≡ y) × (r ≡ s)
 fixed_four = (fixed_code 4 (lit< tt)).one
@@ -75,37 +77,46 @@ summed_small bytes behind summed start len small i j = subst IsBytes (sym j) (by
 sum_front : (rest : Text) (sum : ℕ) → IsAt (IsFixed 4) rest sum 4 → rest ≡ big_bytes 4 sum ++ drop 4 rest
 sum_front rest sum at = sym (take-append-drop 4 rest) ∙ ap (λ (t : List ℕ). t ++ drop 4 rest) at.spelled.0
 
-first_is : (summed : Text) → 0 < length summed → get_or summed 0 0 ≡ encoding → summed ≡ encoding ∷ drop 1 summed
-first_is [] some e = absurd (omega arith)
-first_is (c ∷ more) some e = ap (λ (b : ℕ). b ∷ more) e
+first_is : (enc : Encoding) (summed : Text) → 0 < length summed → get_or summed 0 0 ≡ encoding_byte enc → summed ≡ encoding_byte enc ∷ drop 1 summed
+first_is enc [] some e = absurd (omega arith)
+first_is enc (c ∷ more) some e = ap (λ (b : ℕ). b ∷ more) e
 
-pub begins : (bytes behind summed rest body : Text) (len start sum : ℕ) → IsAt IsUvarint bytes len start → behind ≡ drop start bytes → len < length behind → summed ≡ take (len + 1) behind → rest ≡ drop (len + 1) behind
-    → get_or summed 0 0 ≡ encoding → IsAt (IsFixed 4) rest sum 4 → sum ≡ crc32c summed → body ≡ drop 1 summed → BeginsWith bytes body
+pub begins : (enc : Encoding) (bytes behind summed rest body : Text) (len start sum : ℕ) → IsAt IsUvarint bytes len start → behind ≡ drop start bytes → len < length behind → summed ≡ take (len + 1) behind → rest ≡ drop (len + 1) behind
+    → get_or summed 0 0 ≡ encoding_byte enc → IsAt (IsFixed 4) rest sum 4 → sum ≡ crc32c summed → body ≡ drop 1 summed → BeginsWith enc bytes body
 unfolding sum_text
-begins bytes behind summed rest body len start sum at i lt j k first four same b =
+begins enc bytes behind summed rest body len start sum at i lt j k first four same b =
     let long : length summed ≡ len + 1 = ap length j ∙ length-take-le (len + 1) behind (omega (arith, lt)) in
-    let is : summed ≡ encoding ∷ body = first_is summed (omega (arith, long)) first ∙ ap (λ (t : Text). encoding ∷ t) (sym b) in
+    let is : summed ≡ encoding_byte enc ∷ body = first_is enc summed (omega (arith, long)) first ∙ ap (λ (t : Text). encoding_byte enc ∷ t) (sym b) in
     let n : len ≡ length body = omega (arith, long, ap length is) in
-    let tail : rest ≡ big_bytes 4 (crc32c (encoding ∷ body)) ++ drop 4 rest = sum_front rest sum four ∙ ap (λ (m : ℕ). big_bytes 4 m ++ drop 4 rest) (same ∙ ap crc32c is) in
-    let split : behind ≡ (encoding ∷ body) ++ rest = sym (take-append-drop (len + 1) behind) ∙ ap (λ (t : List ℕ). t ++ drop (len + 1) behind) (sym j ∙ is) ∙ ap (λ (t : List ℕ). (encoding ∷ body) ++ t) (sym k) in
+    let tail : rest ≡ big_bytes 4 (crc32c (encoding_byte enc ∷ body)) ++ drop 4 rest = sum_front rest sum four ∙ ap (λ (m : ℕ). big_bytes 4 m ++ drop 4 rest) (same ∙ ap crc32c is) in
+    let split : behind ≡ (encoding_byte enc ∷ body) ++ rest = sym (take-append-drop (len + 1) behind) ∙ ap (λ (t : List ℕ). t ++ drop (len + 1) behind) (sym j ∙ is) ∙ ap (λ (t : List ℕ). (encoding_byte enc ∷ body) ++ t) (sym k) in
     record {
       spelled = take start bytes;
       rest = drop 4 rest;
       is_length = subst (λ (m : ℕ). IsUvarint (take start bytes) m) n at.spelled;
-      whole = sym (take-append-drop start bytes) ∙ ap (λ (t : List ℕ). take start bytes ++ t) (sym i ∙ split ∙ ap (λ (t : List ℕ). (encoding ∷ body) ++ t) tail)
-          ∙ sym (regrouped (take start bytes) (encoding ∷ body) (big_bytes 4 (crc32c (encoding ∷ body))) (drop 4 rest));
+      whole = sym (take-append-drop start bytes) ∙ ap (λ (t : List ℕ). take start bytes ++ t) (sym i ∙ split ∙ ap (λ (t : List ℕ). (encoding_byte enc ∷ body) ++ t) tail)
+          ∙ sym (regrouped (take start bytes) (encoding_byte enc ∷ body) (big_bytes 4 (crc32c (encoding_byte enc ∷ body))) (drop 4 rest));
     }
 
 -- ---- bytes begin with one chunk at most
 
-pub one_begins : (bytes a b : Text) → BeginsWith bytes a → BeginsWith bytes b → a ≡ b
-one_begins bytes a b p q =
-    let left : Text = (encoding ∷ a) ++ (sum_text (encoding ∷ a) ++ p.rest) in
-    let right : Text = (encoding ∷ b) ++ (sum_text (encoding ∷ b) ++ q.rest) in
+same_encoding : (d e : Encoding) → encoding_byte d ≡ encoding_byte e → d ≡ e
+same_encoding Raw Raw h = refl
+same_encoding Raw Xor h = absurd (omega (arith, h))
+same_encoding Xor Raw h = absurd (omega (arith, h))
+same_encoding Xor Xor h = refl
+
+pub one_begins : (d e : Encoding) (bytes a b : Text) → BeginsWith d bytes a → BeginsWith e bytes b → (d ≡ e) × (a ≡ b)
+one_begins d e bytes a b p q =
+    let left : Text = (encoding_byte d ∷ a) ++ (sum_text (encoding_byte d ∷ a) ++ p.rest) in
+    let right : Text = (encoding_byte e ∷ b) ++ (sum_text (encoding_byte e ∷ b) ++ q.rest) in
     let same = uvarint_code.one p.spelled left q.spelled right (length a) (length b) p.is_length q.is_length
-    (sym (p.whole ∙ regrouped p.spelled (encoding ∷ a) (sum_text (encoding ∷ a)) p.rest) ∙ q.whole ∙ regrouped q.spelled (encoding ∷ b) (sum_text (encoding ∷ b)) q.rest) in
-    let tails : a ++ (sum_text (encoding ∷ a) ++ p.rest) ≡ b ++ (sum_text (encoding ∷ b) ++ q.rest) = ap (drop 1) same.1 in
-    sym (take_at a (sum_text (encoding ∷ a) ++ p.rest) (length a) refl) ∙ ap (take (length a)) tails ∙ take_at b (sum_text (encoding ∷ b) ++ q.rest) (length a) (sym same.0)
+    (sym (p.whole ∙ regrouped p.spelled (encoding_byte d ∷ a) (sum_text (encoding_byte d ∷ a)) p.rest) ∙ q.whole ∙ regrouped q.spelled (encoding_byte e ∷ b) (sum_text (encoding_byte e ∷ b)) q.rest) in
+    let heads : encoding_byte d ≡ encoding_byte e = ap (λ (t : List ℕ). get_or t 0 0) same.1 in
+    let tails : a ++ (sum_text (encoding_byte d ∷ a) ++ p.rest) ≡ b ++ (sum_text (encoding_byte e ∷ b) ++ q.rest) = ap (drop 1) same.1 in (
+      same_encoding d e heads,
+      sym (take_at a (sum_text (encoding_byte d ∷ a) ++ p.rest) (length a) refl) ∙ ap (take (length a)) tails ∙ take_at b (sum_text (encoding_byte e ∷ b) ++ q.rest) (length a) (sym same.0),
+    )
 
 -- ---- a reference
 
@@ -123,19 +134,19 @@ drop_min k xs = elim (cases_lt (length xs) k) [
 ]
 
 pub none_at : (files : List Text) (reference offset : ℕ) (file bytes : Text) → slice_get files (reference / 2 ^ 32) ≡ Some file → offset ≡ min (reference % 2 ^ 32) (length file) → bytes ≡ drop offset file
-    → ((body : Text) → BeginsWith bytes body → ⊥) → (body : Text) → StandsAt files reference body → ⊥
-none_at files reference offset file bytes found o b none body h =
+    → ((e : Encoding) (body : Text) → BeginsWith e bytes body → ⊥) → (e : Encoding) (body : Text) → StandsAt e files reference body → ⊥
+none_at files reference offset file bytes found o b none e body h =
     let both : Some h.file ≡ Some file = sym h.is_file ∙ found in
     let same : h.file ≡ file = cc in
     let there : drop (reference % 2 ^ 32) h.file ≡ bytes = ap (drop (reference % 2 ^ 32)) same ∙ sym (drop_min (reference % 2 ^ 32) file) ∙ ap (λ (k : ℕ). drop k file) (sym o) ∙ sym b in
-    none body (subst (λ (t : Text). BeginsWith t body) there h.there)
+    none e body (subst (λ (t : Text). BeginsWith e t body) there h.there)
 
-pub no_file : (files : List Text) (reference : ℕ) → slice_get files (reference / 2 ^ 32) ≡ None → (body : Text) → StandsAt files reference body → ⊥
-no_file files reference none body h = let both : None ≡ Some h.file = sym none ∙ h.is_file in absurd cc
+pub no_file : (files : List Text) (reference : ℕ) → slice_get files (reference / 2 ^ 32) ≡ None → (e : Encoding) (body : Text) → StandsAt e files reference body → ⊥
+no_file files reference none e body h = let both : None ≡ Some h.file = sym none ∙ h.is_file in absurd cc
 
 -- at a reference stands one chunk at most
-pub one_stands : (files : List Text) (reference : ℕ) (a b : Text) → StandsAt files reference a → StandsAt files reference b → a ≡ b
-one_stands files reference a b p q =
+pub one_stands : (files : List Text) (reference : ℕ) (d e : Encoding) (a b : Text) → StandsAt d files reference a → StandsAt e files reference b → (d ≡ e) × (a ≡ b)
+one_stands files reference d e a b p q =
     let found : Some p.file ≡ Some q.file = sym p.is_file ∙ q.is_file in
     let same : p.file ≡ q.file = cc in
-    one_begins (drop (reference % 2 ^ 32) p.file) a b p.there (subst (λ f. BeginsWith (drop (reference % 2 ^ 32) f) b) (sym same) q.there)
+    one_begins d e (drop (reference % 2 ^ 32) p.file) a b p.there (subst (λ f. BeginsWith e (drop (reference % 2 ^ 32) f) b) (sym same) q.there)

@@ -7,6 +7,7 @@ ghost use Rattle.head_column.specs.declared.chunk.Chunk.{Chunk as ChunkOfRow};
 ghost use Rattle.hw_bytes.specs.Writing.{uvarint};
 ghost use Rattle.block_files.specs.Files.{AreShort, all_texts, chunk_element, chunk_files, file_head, last_reference, longest_chunk, references, row_references, texts, with_chunk, with_last};
 
+use crate::encoding::{Encoding, byte_of};
 use block_text::WriteFault;
 use head_column::Chunk;
 use hw_bytes::{Items, crc32c, put_be32, put_uvarint};
@@ -19,17 +20,14 @@ pub const CHUNK_FILE_LIMIT: u32 = 536_870_912;
 // the header of a file: the magic number, the version and three zeros
 const HEAD: [u8; 8] = [0x85, 0xBD, 0x40, 0xDD, 1, 0, 0, 0];
 
-// the encoding of a chunk's data
-pub(crate) const ENCODING: u8 = 0x41;
-
 // how many files a block can have
 const MOST_FILES: usize = 0x1_0000_0000;
 
 // Returns how many bytes a chunk with these data takes in its file.
 #[tactic(auto, unfolding(hw_bytes::specs::Writing::uvarint, hw_bytes::specs::Writing::uvarint_in, block_text::specs::Sums::sum_text))]
-fn chunk_len(data: &[u8]) -> usize
+fn chunk_len(encoding: Encoding, data: &[u8]) -> usize
     requires { length «data».now ≤ longest_chunk }
-    ensures { result ≡ length (chunk_element «data».now) }
+    ensures { result ≡ length (chunk_element encoding «data».now) }
 {
     let spelled = if data.len() < 128 { 1 } else { 2 };
     spelled + 1 + data.len() + 4
@@ -37,13 +35,13 @@ fn chunk_len(data: &[u8]) -> usize
 
 // Appends a chunk to its file.
 #[tactic(auto, unfolding(block_text::specs::Sums::sum_text))]
-fn put_chunk(file: &mut Vec<u8>, data: &[u8]) -> Result<(), AllocError>
-    ensures put { OnOk result (file.new.items ≡ file.old.items ++ chunk_element «data».now) }
+fn put_chunk(encoding: Encoding, file: &mut Vec<u8>, data: &[u8]) -> Result<(), AllocError>
+    ensures put { OnOk result (file.new.items ≡ file.old.items ++ chunk_element encoding «data».now) }
     ensures kept { OnErr result (length file.old.items ≤ length file.new.items) }
 {
     put_uvarint(file, data.len() as u64)?;
     let start = file.len();
-    file.push(ENCODING)?;
+    file.push(byte_of(encoding))?;
     file.extend_from_slice(data)?;
     let sum = crc32c(&file[start..]);
     put_be32(file, sum)
@@ -85,6 +83,7 @@ fn has_room(limit: u32, file: &[u8], len: usize) -> bool
 // Begins a new last file if the current one has no room for a chunk of `len` bytes, which include its length and checksum.
 fn make_room(
     alloc: Global,
+    encoding: Encoding,
     limit: u32,
     full: &mut Vec<Items<u8>>,
     last: &mut Vec<u8>,
@@ -92,13 +91,13 @@ fn make_room(
 ) -> Result<(), WriteFault>
     requires few { length full.old.items < 2 ^ 32 }
     requires held { last.old.items ≡ [] → full.old.items ≡ [] }
-    ensures placed { OnOk result ((body : Text) → length (chunk_element body) ≡ len →
-        with_chunk limit (with_last full.old.items last.old.items) body ≡ with_last full.new.items (last.new.items ++ chunk_element body)) }
+    ensures placed { OnOk result ((body : Text) → length (chunk_element encoding body) ≡ len →
+        with_chunk encoding limit (with_last full.old.items last.old.items) body ≡ with_last full.new.items (last.new.items ++ chunk_element encoding body)) }
     ensures low { OnOk result (length last.new.items < 2 ^ 32) }
     ensures few { length full.new.items < 2 ^ 32 }
     ensures held { last.new.items ≡ [] → full.new.items ≡ [] }
-    ensures large { result ≡ Err WriteFault.TooLarge → (body : Text) → length (chunk_element body) ≡ len →
-        2 ^ 32 < length (with_chunk limit (with_last full.old.items last.old.items) body) }
+    ensures large { result ≡ Err WriteFault.TooLarge → (body : Text) → length (chunk_element encoding body) ≡ len →
+        2 ^ 32 < length (with_chunk encoding limit (with_last full.old.items last.old.items) body) }
 {
     if has_room(limit, last, len) {
         return Ok(());
@@ -110,6 +109,7 @@ fn make_room(
 // Appends a chunk to the files, and returns its reference.
 pub(crate) fn add_chunk(
     alloc: Global,
+    encoding: Encoding,
     limit: u32,
     full: &mut Vec<Items<u8>>,
     last: &mut Vec<u8>,
@@ -118,15 +118,22 @@ pub(crate) fn add_chunk(
     requires few { length full.old.items < 2 ^ 32 }
     requires held { last.old.items ≡ [] → full.old.items ≡ [] }
     requires short { length «data».now ≤ longest_chunk }
-    ensures files { OnOk result (with_last full.new.items last.new.items ≡ with_chunk limit (with_last full.old.items last.old.items) «data».now) }
-    ensures reference { IfOk result (λ reference. reference ≡ last_reference (with_chunk limit (with_last full.old.items last.old.items) «data».now) «data».now) }
+    ensures files { OnOk result (with_last full.new.items last.new.items ≡ with_chunk encoding limit (with_last full.old.items last.old.items) «data».now) }
+    ensures reference { IfOk result (λ reference. reference ≡ last_reference encoding (with_chunk encoding limit (with_last full.old.items last.old.items) «data».now) «data».now) }
     ensures few { length full.new.items < 2 ^ 32 }
     ensures held { last.new.items ≡ [] → full.new.items ≡ [] }
-    ensures large { result ≡ Err WriteFault.TooLarge → 2 ^ 32 < length (with_chunk limit (with_last full.old.items last.old.items) «data».now) }
+    ensures large { result ≡ Err WriteFault.TooLarge → 2 ^ 32 < length (with_chunk encoding limit (with_last full.old.items last.old.items) «data».now) }
 {
-    make_room(alloc, limit, full, last, chunk_len(data))?;
+    make_room(
+        alloc,
+        encoding,
+        limit,
+        full,
+        last,
+        chunk_len(encoding, data),
+    )?;
     let file = full.len() as u64;
     let offset = last.len() as u64;
-    put_chunk(last, data)?;
+    put_chunk(encoding, last, data)?;
     Ok(file * 0x1_0000_0000 + offset)
 }

@@ -2,15 +2,28 @@
 
 ghost use Rattle.std.specs.Prelude.{◌≡◌, IfSome, IfNone};
 ghost use Rattle.block_text.specs.Sums.{Text};
-ghost use Rattle.block_files.specs.Files.{BeginsWith, StandsAt};
+ghost use Rattle.block_files.specs.declared.encoding.Encoding.{Encoding as EncodingOf};
+ghost use Rattle.block_files.specs.Files.{BeginsWith, StandsAt, encoding_byte};
 
-use crate::chunks::ENCODING;
+use crate::encoding::Encoding;
 use hw_bytes::{Items, be32_at, crc32c, uvarint_at};
 
-// Reads a chunk at the front of bytes, and returns its data.
-fn front_chunk(bytes: &[u8]) -> Option<&[u8]>
-    ensures found { IfSome result (λ body. BeginsWith bytes.now body.now) }
-    ensures none { IfNone result ((body : Text) → BeginsWith bytes.now body → ⊥) }
+// Returns the encoding that has this byte.
+fn encoding_of(byte: u8) -> Option<Encoding>
+    ensures found { IfSome result (λ encoding. encoding_byte encoding ≡ byte) }
+    ensures none { IfNone result ((e : EncodingOf) → encoding_byte e ≡ byte → ⊥) }
+{
+    match byte {
+        0x41 => Some(Encoding::Raw),
+        1 => Some(Encoding::Xor),
+        _ => None,
+    }
+}
+
+// Reads a chunk at the front of bytes, and returns its encoding and its data.
+fn front_chunk(bytes: &[u8]) -> Option<(Encoding, &[u8])>
+    ensures found { IfSome result (λ chunk. BeginsWith chunk.0 bytes.now chunk.1.now) }
+    ensures none { IfNone result ((e : EncodingOf) (body : Text) → BeginsWith e bytes.now body → ⊥) }
 {
     let (len, start) = uvarint_at(bytes)?;
     let (_, body) = bytes.split_at(start);
@@ -18,22 +31,20 @@ fn front_chunk(bytes: &[u8]) -> Option<&[u8]>
         return None;
     }
     let (summed, rest) = body.split_at(len as usize + 1);
-    if summed[0] != ENCODING {
-        return None;
-    }
+    let encoding = encoding_of(summed[0])?;
     let sum = be32_at(rest)?;
     if sum != crc32c(summed) {
         return None;
     }
     let (_, data) = summed.split_at(1);
-    Some(data)
+    Some((encoding, data))
 }
 
-/// Returns the data of the chunk at a reference, borrowed from its file. Returns `None` if there is no such file, or no chunk with a valid
-/// checksum at the offset.
-pub fn chunk_at(files: &[Items<u8>], reference: u64) -> Option<&[u8]>
-    ensures found { IfSome result (λ body. StandsAt files.now reference body.now) }
-    ensures none { IfNone result ((body : Text) → StandsAt files.now reference body → ⊥) }
+/// Returns the encoding and the data of the chunk at a reference. The data are borrowed from its file. Returns `None` if there is no such
+/// file, or no chunk at the offset with a valid checksum and one of the encodings.
+pub fn chunk_at(files: &[Items<u8>], reference: u64) -> Option<(Encoding, &[u8])>
+    ensures found { IfSome result (λ chunk. StandsAt chunk.0 files.now reference chunk.1.now) }
+    ensures none { IfNone result ((e : EncodingOf) (body : Text) → StandsAt e files.now reference body → ⊥) }
 {
     let file = files.get((reference / 0x1_0000_0000) as usize)?.as_slice();
     let offset = ((reference % 0x1_0000_0000) as usize).min(file.len());

@@ -2,6 +2,7 @@
 #![tactic(auto)]
 
 mod chunks;
+mod encoding;
 mod fields;
 mod files;
 mod front;
@@ -11,6 +12,7 @@ mod tombstones;
 mod ulid;
 
 pub use chunks::CHUNK_FILE_LIMIT;
+pub use encoding::Encoding;
 pub use files::{ChunkFiles, write_chunks};
 pub use front::chunk_at;
 pub use laws::{chunks_stand, one_chunk};

@@ -7,5 +7,5 @@ use Rattle.block_files.proofs.chunks.add_chunk.Goals as goal
 pub returns-clause-reference : goal.returns-clause-reference
 returns-clause-reference c =
     let placed = c.in_ok-make_room.ensures.placed c.args.data.now (sym c.chunk_len.ensures) in
-    let is = ap (λ (fs : List Text). last_reference fs c.args.data.now) placed ∙ last_reference_is c.make_room.new.full.items c.make_room.new.last.items c.args.data.now in
+    let is = ap (λ (fs : List Text). last_reference c.args.encoding fs c.args.data.now) placed ∙ last_reference_is c.args.encoding c.make_room.new.full.items c.make_room.new.last.items c.args.data.now in
     omega (arith, is, c.len-file.ensures, c.len-offset.ensures)

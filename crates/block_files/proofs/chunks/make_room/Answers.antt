@@ -6,13 +6,13 @@ use Rattle.block_files.proofs.chunks.make_room.Goals as goal
 pub returns-then-has_room-clause-placed : goal.returns-then-has_room-clause-placed
 returns-then-has_room-clause-placed c = λ body n.
     let room = c.has_room.ensures.0 c.if-has_room.true in
-    stays c.args.limit c.args.full.now.items c.args.last.now.items body (omega (arith, room.0, ap length c.deref.ensures.value)) (omega (arith, room.1, n, ap length c.deref.ensures.value))
+    stays c.args.encoding c.args.limit c.args.full.now.items c.args.last.now.items body (omega (arith, room.0, ap length c.deref.ensures.value)) (omega (arith, room.1, n, ap length c.deref.ensures.value))
 
 pub returns-clause-placed : goal.returns-clause-placed
 returns-clause-placed c = λ body n.
     rw c.in_ok-begin_file.ensures.begun
-    (moves c.args.limit c.begin_file.new.full.items c.args.full.now.items c.args.last.now.items body c.requires.held
-    (no_room c.has_room.result c.args.limit c.deref.result.now c.args.last.now.items body c.args.len c.deref.ensures.value n c.has_room.ensures.1 c.if-has_room.false) c.in_ok-begin_file.ensures.files)
+    (moves c.args.encoding c.args.limit c.begin_file.new.full.items c.args.full.now.items c.args.last.now.items body c.requires.held
+    (no_room c.has_room.result c.args.encoding c.args.limit c.deref.result.now c.args.last.now.items body c.args.len c.deref.ensures.value n c.has_room.ensures.1 c.if-has_room.false) c.in_ok-begin_file.ensures.files)
 
 pub returns-in_err-begin_file-clause-large : goal.returns-in_err-begin_file-clause-large
 returns-in_err-begin_file-clause-large c = λ e body n.
@@ -20,6 +20,6 @@ returns-in_err-begin_file-clause-large c = λ e body n.
     omega (
       arith,
       c.begin_file.ensures.large bad,
-      moves_length c.args.limit c.args.full.now.items c.args.last.now.items body c.requires.held
-          (no_room c.has_room.result c.args.limit c.deref.result.now c.args.last.now.items body c.args.len c.deref.ensures.value n c.has_room.ensures.1 c.if-has_room.false),
+      moves_length c.args.encoding c.args.limit c.args.full.now.items c.args.last.now.items body c.requires.held
+          (no_room c.has_room.result c.args.encoding c.args.limit c.deref.result.now c.args.last.now.items body c.args.len c.deref.ensures.value n c.has_room.ensures.1 c.if-has_room.false),
     )

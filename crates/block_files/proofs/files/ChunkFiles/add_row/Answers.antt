@@ -9,7 +9,7 @@ add-requires c = chunk_short c.args.row.now c.loop-chunk.chunk-index c.chunk-ite
 pub loop-chunk-preserved : goal.loop-chunk-preserved
 loop-chunk-preserved c =
     row_added c.args.self.now c.loop-chunk.self c.add.new.self c.args.row.now c.loop-chunk.chunk-index c.chunk-item.result c.loop-chunk.found.items c.push.new.self.items c.in_ok-add.field-0 c.loop-chunk-test.true c.chunk-item.is c.loop-chunk.invariant
-    c.add.ensures.limit c.in_ok-add.ensures.files c.in_ok-add.ensures.reference c.in_ok-push.ensures.items
+    c.add.ensures.encoding c.add.ensures.limit c.in_ok-add.ensures.files c.in_ok-add.ensures.reference c.in_ok-push.ensures.items
 
 pub returns-clause-references : goal.returns-clause-references
 returns-clause-references c = λ before e. row_references_are c.args.self.now c.loop-chunk.self before c.args.row.now c.loop-chunk.chunk-index c.loop-chunk.found.items c.loop-chunk-test.false e c.loop-chunk.invariant
