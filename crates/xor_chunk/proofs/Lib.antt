@@ -1,0 +1,14 @@
+pub mod Bits
+pub mod Windows
+pub mod Steps
+pub mod Cut
+pub mod Packing
+pub mod Short
+pub mod Reading
+pub mod Front
+pub mod Counts
+pub mod Rounds
+pub mod Near
+pub mod RoundTrip
+pub mod Chunks
+pub mod Vectors

@@ -1,0 +1,4 @@
+pub mod Bits
+pub mod Chunks
+pub mod Reading
+pub mod Private

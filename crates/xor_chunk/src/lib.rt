@@ -1,0 +1,17 @@
+//! Chunks of samples in Prometheus' XOR encoding: the bytes of a list of samples, and the samples of bytes. Nothing here reads or writes
+//! a file.
+#![tactic(auto)]
+
+mod before;
+mod decoding;
+mod encoding;
+mod facts;
+mod fault;
+mod laws;
+mod reader;
+mod writer;
+
+pub use decoding::{decode, decode_exact, decode_in};
+pub use encoding::{encode, encode_in};
+pub use fault::XorFault;
+pub use laws::{near_numbers, one_chunk, reads_back, server_chunks, short_chunk};
