@@ -1,5 +1,5 @@
 -- How long a chunk is.
-use Rattle.std.proofs.Common.{◌≡◌, ℕ, zero, suc, ◌+◌, ◌-◌, ◌*◌, ◌/◌, ◌%◌, ◌^◌, ◌≤◌, Bool, true, false, cond, eqb, ltb, List, [], ◌∷◌, ◌++◌, Option, Some, None, refl, sym, ap, ◌∙◌, arith, length, length-append}
+use Rattle.std.proofs.Common.{◌≡◌, ℕ, zero, suc, ◌+◌, ◌*◌, ◌/◌, ◌%◌, ◌^◌, ◌≤◌, Bool, true, false, cond, eqb, ltb, List, [], ◌∷◌, ◌++◌, Option, Some, None, sym, ap, ◌∙◌, arith, length, length-append}
 use Rattle.std.specs.Prelude.{replicate, bit_xor}
 use Rattle.std.proofs.lemmas.List.{length-replicate}
 use Rattle.byteorder.specs.Numbers.{length-bytes_high_first}
@@ -7,7 +7,7 @@ use Rattle.hw_bytes.specs.Writing.{big_bytes, uvarint, uvarint_in, varint}
 use Rattle.head_column.specs.declared.items.Sample.{Sample}
 use Rattle.xor_chunk.specs.Bits.{bits_of, bits_in}
 use Rattle.xor_chunk.specs.Private.{IsPad}
-use Rattle.xor_chunk.specs.Chunks.{pattern, minus, is_near, step_bits, opened, width, within, opening, reused, changed_bits, value_bits, window_after, sample_bits, after, samples_bits, second, tail_bits, count_bytes, first_bytes, delta_bytes, head_bytes, behind_head, chunk_bits, is_whole_chunk, xor_text}
+use Rattle.xor_chunk.specs.Chunks.{pattern, minus, is_near, step_bits, opened, width, within, opening, reused, changed_bits, value_bits, sample_bits, after, samples_bits, second, count_bytes, first_bytes, delta_bytes, head_bytes, behind_head, chunk_bits, is_whole_chunk, xor_text}
 use Rattle.xor_chunk.specs.declared.before.Window.{Window}
 use Rattle.xor_chunk.specs.declared.before.Before.{Before}
 use Rattle.xor_chunk.proofs.Bits.{bits_of-length}

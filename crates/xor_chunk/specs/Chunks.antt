@@ -10,12 +10,15 @@ use Rattle.xor_chunk.specs.declared.before.Before.{Before}
 
 -- ---- 64 bits: sums and differences wrap, and a negative number is what it is above -2^64
 
+-- `uint64(t)` of a time, and `math.Float64bits` of a value
 abbrev pub pattern : ℤ → ℕ
 pattern z = cast_unsigned w64 z
 
+-- sums of `xorIterator.Next`
 abbrev pub plus : ℕ → ℕ → ℕ
 plus a b = (a + b) % 2 ^ 64
 
+-- `tDelta` and `dod` of `xorAppender.Append`
 abbrev pub minus : ℕ → ℕ → ℕ
 minus a b = (a + (2 ^ 64 - b)) % 2 ^ 64
 
@@ -85,16 +88,17 @@ sample_bits b s = step_bits (minus (minus (pattern s.time) b.time) b.delta) ++ v
 abbrev pub after : Before → Sample → Before
 after b s = record { time = pattern s.time; value = pattern s.value; delta = minus (pattern s.time) b.time; window = window_after b.window (bit_xor b.value (pattern s.value)) }
 
+-- `xorAppender.Append` of each
 unfoldable pub samples_bits : Before → List Sample → List Bool
 samples_bits b [] = []
 samples_bits b (s ∷ more) = sample_bits b s ++ samples_bits (after b s) more
 
--- the last number of all has whole bytes, where that of the sample before them has or has not
+-- the last number of all has whole bytes, where that of the sample before them has or has not: the last call of bstream.go was `writeByte`
 unfoldable pub ends_whole : Bool → Before → List Sample → Bool
 ends_whole whole b [] = whole
 ends_whole whole b (s ∷ more) = ends_whole (is_whole b.window (bit_xor b.value (pattern s.value))) (after b s) more
 
--- the second sample, as the one before the third
+-- the second sample, as the one before the third: what the second case of `xorAppender.Append` leaves
 abbrev pub second : Sample → Sample → Before
 second a b = record { time = pattern b.time; value = pattern b.value; delta = minus (pattern b.time) (pattern a.time); window = window_after None (bit_xor (pattern a.value) (pattern b.value)) }
 
@@ -115,11 +119,13 @@ first_bytes a = varint a.time ++ big_bytes 8 (pattern a.value)
 unfoldable pub delta_bytes : Sample → Sample → List ℕ
 delta_bytes a b = uvarint (minus (pattern b.time) (pattern a.time))
 
+-- what the first two cases of `xorAppender.Append` write by `writeByte`
 abbrev pub head_bytes : List Sample → List ℕ
 head_bytes [] = []
 head_bytes (a ∷ []) = first_bytes a
 head_bytes (a ∷ b ∷ more) = first_bytes a ++ delta_bytes a b
 
+-- what `xorAppender.Append` writes behind that
 abbrev pub behind_head : List Sample → List Bool
 behind_head [] = []
 behind_head (a ∷ []) = []
@@ -131,6 +137,7 @@ is_whole_chunk [] = false
 is_whole_chunk (a ∷ []) = true
 is_whole_chunk (a ∷ b ∷ more) = ends_whole (is_whole None (bit_xor (pattern a.value) (pattern b.value))) (second a b) more
 
+-- all that is written
 unfoldable pub chunk_bits : List Sample → List Bool
 chunk_bits samples = bits_in (count_bytes (length samples) ++ head_bytes samples) ++ behind_head samples
 

@@ -2,3 +2,4 @@ pub mod Bits
 pub mod Chunks
 pub mod Reading
 pub mod Private
+pub mod Faults

@@ -4,7 +4,7 @@ use std::alloc::AllocError;
 use std::error::Error;
 use std::fmt;
 
-/// The error of decoding a chunk: the first fault from the front, except that `Memory` can come before any.
+/// The error of decoding a chunk: the first fault from the front, except that `Memory` can come before any and `NotCanonical` comes behind all.
 #[derive(Clone, Copy, Debug, PartialEq, Eq)]
 pub enum XorFault {
     /// The bytes end before the last sample does.
@@ -21,6 +21,11 @@ pub enum XorFault {
 }
 
 impl fmt::Display for XorFault {
+    ghost use Rattle.std.specs.Prelude.{Some};
+    ghost use Rattle.xor_chunk.specs.Faults.{fault_text};
+
+    ghost output = { λ fault. Some (fault_text fault) };
+
     fn fmt<W: fmt::Write>(&self, f: &mut fmt::Formatter<W>) -> fmt::Result {
         f.write_str(match self {
             XorFault::TooShort => "cut off before the last sample",
