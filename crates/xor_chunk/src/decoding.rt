@@ -294,6 +294,7 @@ pub fn decode(alloc: Global, bytes: &[u8]) -> Result<Vec<Sample>, XorFault>
 /// stop being one.
 pub fn decode_exact(alloc: Global, text: &[u8]) -> Result<Vec<Sample>, XorFault>
     ensures found { IfOk result (λ samples. IsXorChunk text.now samples.items × All IsFit samples.items) }
+    ensures only { (all : List Sample) → All IsFit all → IsXorChunk text.now all → IfOk result (λ samples. samples.items ≡ all) }
     ensures bad { IfErr result (λ fault. fault ≢ XorFault.Memory → (all : List Sample) → All IsFit all → IsXorChunk text.now all → ⊥) }
 {
     are_bytes(text);
