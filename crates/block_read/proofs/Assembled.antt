@@ -17,14 +17,14 @@ use Rattle.block_text.specs.Sums.{Text}
 use Rattle.index_parts.specs.declared.row.IndexRow.{IndexRow}
 use Rattle.index_parts.specs.Index.{index_text, series_ids}
 use Rattle.index_parts.specs.Rows.{FitsIndex, IsIndex, IsRow}
+use Rattle.block_files.specs.declared.encoding.Encoding.{Encoding}
 use Rattle.block_files.specs.declared.meta.Meta.{Meta}
-use Rattle.block_files.specs.Files.{all_texts}
 use Rattle.block_files.specs.Meta.{meta_text}
 use Rattle.block_files.specs.Tombstones.{tombstones_text}
 use Rattle.block_read.specs.declared.block.Block.{Block}
 use Rattle.block_read.specs.declared.rows.BlockRow.{BlockRow}
 use Rattle.block_read.specs.declared.rows.BlockRows.{BlockRows}
-use Rattle.block_read.specs.Blocks.{FitsRun, HasHidden, HasSamples, IsBlockOf, IsColumn, IsRowOf, IsWithin, block_text, chunks_of_rows, description, files_of, hour_last, index_rows, samples_of_rows, tombstones_of}
+use Rattle.block_read.specs.Blocks.{FitsRun, HasHidden, HasSamples, IsBlockOf, IsColumn, IsRowOf, IsWithin, block_text, chunk_count, description, files_of, hour_last, index_rows, samples_of_rows, tombstones_of}
 use Rattle.block_read.specs.Reading.{AreOfHour, AreWithin, HasMeta, summary}
 use Rattle.block_read.proofs.Described.{fits_from}
 use Rattle.block_read.proofs.Joined.{index_rows_are}
@@ -43,29 +43,29 @@ mapped f P (x ∷ xs) h = (h.0, mapped f P xs h.1)
 
 -- ---- the parts of a block
 
-few_of : (block : Block) (b : BlockRows) → IsBlockOf block b → length (files_of (samples_of_rows b.rows)) ≤ 2 ^ 32
+few_of : {e : Encoding} (block : Block) (b : BlockRows) → IsBlockOf e block b → length (files_of e (samples_of_rows b.rows)) ≤ 2 ^ 32
 unfolding block_text
-few_of block b h = omega (arith, h.few_files, ap (λ (x : Block). length x.chunks) h.text)
+few_of {e = e} block b h = omega (arith, h.few_files, ap (λ (x : Block). length x.chunks) h.text)
 
 column_of : (k : ℤ) (r : BlockRow) → IsRowOf k r → IsColumn r.samples
 column_of k r h = record { some = h.some; rises = h.rises; fit = h.fit }
 
 -- The index of a block is that of its rows.
-pub index_of : (block : Block) (b : BlockRows) → IsBlockOf block b → IsIndex block.index (index_rows b.rows)
+pub index_of : {e : Encoding} (block : Block) (b : BlockRows) → IsBlockOf e block b → IsIndex block.index (index_rows e b.rows)
 unfolding block_text
-index_of block b h = record {
-  rows_are = rows_of_block b.rows h.some (weaker (IsRowOf b.hour) (λ (r : BlockRow). IsLabelSet r.labels) (λ r p. p.labels) b.rows h.each)
+index_of {e = e} block b h = record {
+  rows_are = rows_of_block e b.rows h.some (weaker (IsRowOf b.hour) (λ (r : BlockRow). IsLabelSet r.labels) (λ r p. p.labels) b.rows h.each)
       (weaker (IsRowOf b.hour) (λ (r : BlockRow). IsColumn r.samples) (column_of b.hour) b.rows h.each) h.ascending (few_of block b h);
   fits = h.index_fits;
   text = ap (λ (x : Block). x.index) h.text;
 }
 
 -- The chunk files of a block have its samples.
-pub samples_of : (block : Block) (b : BlockRows) → IsBlockOf block b → HasSamples block.chunks (index_rows b.rows) (samples_of_rows b.rows)
+pub samples_of : {e : Encoding} (block : Block) (b : BlockRows) → IsBlockOf e block b → HasSamples e block.chunks (index_rows e b.rows) (samples_of_rows b.rows)
 unfolding block_text
-samples_of block b h =
-    subst (λ (fs : List Text). HasSamples fs (index_rows b.rows) (samples_of_rows b.rows)) (sym (ap (λ (x : Block). x.chunks) h.text))
-    (has_samples b.rows (weaker (IsRowOf b.hour) (λ (r : BlockRow). IsColumn r.samples) (column_of b.hour) b.rows h.each) (few_of block b h))
+samples_of {e = e} block b h =
+    subst (λ (fs : List Text). HasSamples e fs (index_rows e b.rows) (samples_of_rows b.rows)) (sym (ap (λ (x : Block). x.chunks) h.text))
+    (has_samples e b.rows (weaker (IsRowOf b.hour) (λ (r : BlockRow). IsColumn r.samples) (column_of b.hour) b.rows h.each) (few_of block b h))
 
 fits_between : (a b t : ℤ) → FitsSigned w64 a → FitsSigned w64 b → a ≤ℤ t → t ≤ℤ b → FitsSigned w64 t
 fits_between a b t f g p q = (let low = above_least a f in let high = below_greatest b g in fits_from t (omega (arith, ints, low, p)) (omega (arith, ints, high, q)))
@@ -79,10 +79,10 @@ run_fits k inner r h =
     }
 
 -- The tombstones of a block have its hidden runs.
-pub hidden_of : (block : Block) (b : BlockRows) → IsBlockOf block b → HasHidden block.tombstones (index_rows b.rows) (hidden_of_rows b.rows)
+pub hidden_of : {e : Encoding} (block : Block) (b : BlockRows) → IsBlockOf e block b → HasHidden block.tombstones (index_rows e b.rows) (hidden_of_rows b.rows)
 unfolding block_text
-hidden_of block b h = record {
-  one_each = length-map b.rows (λ (r : BlockRow). r.hidden) ∙ sym (index_count b.rows);
+hidden_of {e = e} block b h = record {
+  one_each = length-map b.rows (λ (r : BlockRow). r.hidden) ∙ sym (index_count e b.rows);
   apart = mapped (λ (r : BlockRow). r.hidden) AreApart b.rows (weaker (IsRowOf b.hour) (λ (r : BlockRow). AreApart r.hidden) (λ r p. p.apart) b.rows h.each);
   fit = mapped (λ (r : BlockRow). r.hidden) (All FitsRun) b.rows (weaker (IsRowOf b.hour) (λ (r : BlockRow). All FitsRun r.hidden) (λ r p. All-weaker (IsWithin b.hour) FitsRun (run_fits b.hour h.whole) r.hidden p.hidden_within) b.rows h.each);
   text = ap (λ (x : Block). x.tombstones) h.text;
@@ -93,16 +93,16 @@ flat_samples [] = refl
 flat_samples (r ∷ rows) = ap (λ (t : List Sample). r.samples ++ t) (flat_samples rows)
 
 abbrev counted : BlockRows → ℕ → ℕ → Meta
-counted b samples series = record { ulid = b.ulid; min_time = hour_start b.hour; max_time = hour_start (b.hour +ℤ pos 1); samples = samples; series = series; chunks = length (all_texts (chunks_of_rows (samples_of_rows b.rows))) }
+counted b samples series = record { ulid = b.ulid; min_time = hour_start b.hour; max_time = hour_start (b.hour +ℤ pos 1); samples = samples; series = series; chunks = chunk_count (samples_of_rows b.rows) }
 
 summary_is : (b : BlockRows) → description b ≡ summary b.ulid b.hour (samples_of_rows b.rows)
 summary_is b =
     ap (λ n. counted b n (length b.rows)) (ap length (flat_samples b.rows)) ∙ ap (λ n. counted b (length (flat_map (λ s. s) (samples_of_rows b.rows))) n) (sym (length-map b.rows (λ (r : BlockRow). r.samples)))
 
 -- The meta.json of a block is that of its samples and runs.
-pub meta_of_block : (block : Block) (b : BlockRows) → IsBlockOf block b → HasMeta block.meta (samples_of_rows b.rows) (hidden_of_rows b.rows) b.ulid b.hour
+pub meta_of_block : {e : Encoding} (block : Block) (b : BlockRows) → IsBlockOf e block b → HasMeta block.meta (samples_of_rows b.rows) (hidden_of_rows b.rows) b.ulid b.hour
 unfolding block_text
-meta_of_block block b h = record {
+meta_of_block {e = e} block b h = record {
   is_ulid = h.ulid;
   whole = h.whole;
   within = mapped (λ (r : BlockRow). r.samples) (AreOfHour b.hour) b.rows (weaker (IsRowOf b.hour) (λ (r : BlockRow). AreOfHour b.hour r.samples) (λ r p. p.within) b.rows h.each);
@@ -124,11 +124,11 @@ rows_are : (k : ℤ) (rows : List BlockRow) → AllByRecursion (λ (r : BlockRow
 rows_are k [] l c w a h = tt
 rows_are k (r ∷ rows) l c w a h = (record { labels = l.0; some = c.0.some; rises = c.0.rises; fit = c.0.fit; within = w.0; apart = a.0; hidden_within = h.0 }, rows_are k rows l.1 c.1 w.1 a.1 h.1)
 
-pub joined_block : (block : Block) (b : BlockRows) (index : List IndexRow) → IsIndex block.index index → HasSamples block.chunks index (samples_of_rows b.rows) → HasHidden block.tombstones index (hidden_of_rows b.rows)
-    → HasMeta block.meta (samples_of_rows b.rows) (hidden_of_rows b.rows) b.ulid b.hour → map (λ (r : BlockRow). r.labels) b.rows ≡ map (λ (r : IndexRow). r.labels) index → IsBlockOf block b
+pub joined_block : {e : Encoding} (block : Block) (b : BlockRows) (index : List IndexRow) → IsIndex block.index index → HasSamples e block.chunks index (samples_of_rows b.rows) → HasHidden block.tombstones index (hidden_of_rows b.rows)
+    → HasMeta block.meta (samples_of_rows b.rows) (hidden_of_rows b.rows) b.ulid b.hour → map (λ (r : BlockRow). r.labels) b.rows ≡ map (λ (r : IndexRow). r.labels) index → IsBlockOf e block b
 unfolding block_text
-joined_block block b index i s t m labels =
-    let is : index_rows b.rows ≡ index = index_rows_are b.rows index labels s.named in
+joined_block {e = e} block b index i s t m labels =
+    let is : index_rows e b.rows ≡ index = index_rows_are e b.rows index labels s.named in
     let sets = labels_are (λ (r : IndexRow). r.labels) (λ (r : BlockRow). r.labels) IsLabelSet index b.rows (sym labels) (weaker IsRow (λ (r : IndexRow). IsLabelSet r.labels) (λ r p. p.labels) index i.rows_are.each) in
     record {
       ulid = m.is_ulid;
@@ -138,7 +138,7 @@ joined_block block b index i s t m labels =
       ascending = chain_are (λ (r : IndexRow). r.labels) (λ (r : BlockRow). r.labels) (λ x y. compare_labels x y ≡ Less) index b.rows (sym labels) i.rows_are.ascending;
       index_fits = subst FitsIndex (sym is) i.fits;
       few_files = s.few_files;
-      text = same_block block (block_text b) (i.text ∙ ap index_text (sym is)) s.files_are (t.text ∙ ap (λ (rs : List IndexRow). tombstones_text (tombstones_of (series_ids rs) (hidden_of_rows b.rows))) (sym is))
+      text = same_block block (block_text e b) (i.text ∙ ap index_text (sym is)) s.files_are (t.text ∙ ap (λ (rs : List IndexRow). tombstones_text (tombstones_of (series_ids rs) (hidden_of_rows b.rows))) (sym is))
           (m.described ∙ ap meta_text (sym (summary_is b)));
     }
 

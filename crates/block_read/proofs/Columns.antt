@@ -12,13 +12,16 @@ use Rattle.hw_bytes.proofs.Lists.{flat_map-push, map_push}
 use Rattle.head_column.specs.declared.items.Sample.{Sample}
 use Rattle.head_column.specs.declared.chunk.Chunk.{Chunk}
 use Rattle.head_column.specs.Samples.{Rises}
-use Rattle.head_column.specs.Chunks.{AreFull, IsChunk, IsFit, chunk_of, chunk_samples, chunk_text, chunks_of, first_time, last_time, parts, samples_text, time_text, value_text}
+use Rattle.head_column.specs.Chunks.{AreFull, IsChunk, IsFit, chunk_samples, first_time, last_time, parts, samples_text, time_text, value_text}
 use Rattle.head_column.proofs.Parts.{one_parts, parts_are}
 use Rattle.block_text.specs.Sums.{Text}
 use Rattle.index_parts.specs.declared.row.ChunkMeta.{ChunkMeta}
+use Rattle.xor_chunk.specs.Chunks.{xor_text}
+use Rattle.block_files.specs.declared.encoding.Encoding.{Encoding}
+use Rattle.block_files.specs.declared.encoding.Encoding.TheVariants.{Raw, Xor}
 use Rattle.block_files.specs.Files.{StandsAt, longest_chunk, row_texts}
 use Rattle.block_files.proofs.RowLaws.{all_first, all_second}
-use Rattle.block_read.specs.Blocks.{IsColumn}
+use Rattle.block_read.specs.Blocks.{IsColumn, chunk_in, chunks_in, data_in}
 use Rattle.block_read.specs.Reading.{AreThere, MayFollow}
 
 abbrev pub joined : List (List Sample) → List Sample
@@ -26,7 +29,7 @@ joined ps = flat_map (λ p. p) ps
 
 -- ---- times that rise
 
-rises_join : (a b : List Sample) → Rises a → Rises b → (0 < length a → last_time a <ℤ first_time b) → Rises (a ++ b)
+pub rises_join : (a b : List Sample) → Rises a → Rises b → (0 < length a → last_time a <ℤ first_time b) → Rises (a ++ b)
 rises_join [] b p q h = q
 rises_join (x ∷ []) [] p q h = tt
 rises_join (x ∷ []) (y ∷ b) p q h = (h (omega arith), q)
@@ -79,64 +82,64 @@ full_first p (q ∷ more) f some = f.0
 
 -- ---- what has been read
 
-pub record Read (samples : List Sample) (chunks : List Chunk) : Type 0 where
+pub record Read (e : Encoding) (samples : List Sample) (chunks : List Chunk) : Type 0 where
   pub cut : List (List Sample)
   pub joined_are : joined cut ≡ samples
   pub full : AreFull chunk_samples cut
-  pub chunks_are : chunks ≡ map chunk_of cut
+  pub chunks_are : chunks ≡ map (chunk_in e) cut
   pub rises : Rises samples
   pub fit : All IsFit samples
 
-pub read_none : Read [] []
-read_none = record { cut = []; joined_are = refl; full = tt; chunks_are = refl; rises = tt; fit = All-nil IsFit }
+pub read_none : (e : Encoding) → Read e [] []
+read_none e = record { cut = []; joined_are = refl; full = tt; chunks_are = refl; rises = tt; fit = All-nil IsFit }
 
-pub read_more : (samples all part : List Sample) (chunks every : List Chunk) (chunk : Chunk) → Read samples chunks → IsChunk part → MayFollow samples part → chunk ≡ chunk_of part → all ≡ samples ++ part → every ≡ chunks ++ chunk ∷ [] → Read all every
-read_more samples all part chunks every chunk h p f c e k = record {
+pub read_more : {e : Encoding} (samples all part : List Sample) (chunks every : List Chunk) (chunk : Chunk) → Read e samples chunks → IsChunk part → MayFollow samples part → chunk ≡ chunk_in e part → all ≡ samples ++ part → every ≡ chunks ++ chunk ∷ [] → Read e all every
+read_more {e = d} samples all part chunks every chunk h p f c e k = record {
   cut = h.cut ++ part ∷ [];
   joined_are = flat_map-push (λ q. q) h.cut part ∙ ap (λ (t : List Sample). t ++ part) h.joined_are ∙ sym e;
   full = full_push h.cut part h.full (ap (λ (t : List Sample). length t % chunk_samples) h.joined_are ∙ f.full) p.some p.few;
-  chunks_are = k ∙ ap (λ (t : List Chunk). t ++ chunk ∷ []) h.chunks_are ∙ ap (λ (x : Chunk). map chunk_of h.cut ++ x ∷ []) c ∙ sym (map_push chunk_of h.cut part);
+  chunks_are = k ∙ ap (λ (t : List Chunk). t ++ chunk ∷ []) h.chunks_are ∙ ap (λ (x : Chunk). map (chunk_in d) h.cut ++ x ∷ []) c ∙ sym (map_push (chunk_in d) h.cut part);
   rises = subst Rises (sym e) (rises_join samples part h.rises p.rises f.later);
   fit = subst (All IsFit) (sym e) (All-append IsFit samples part h.fit p.fit);
 }
 
-pub read_column : (samples : List Sample) (chunks : List Chunk) → Read samples chunks → 0 < length samples → IsColumn samples
+pub read_column : {e : Encoding} (samples : List Sample) (chunks : List Chunk) → Read e samples chunks → 0 < length samples → IsColumn samples
 read_column samples chunks h some = record { some = some; rises = h.rises; fit = h.fit }
 
-pub read_chunks : (samples : List Sample) (chunks : List Chunk) → Read samples chunks → chunks ≡ chunks_of samples
-read_chunks samples chunks h =
-    h.chunks_are ∙ ap (map chunk_of) (one_parts chunk_samples (lit< tt) samples h.cut (parts chunk_samples samples) (record { joined = h.joined_are; full = h.full }) (parts_are chunk_samples (lit< tt) samples))
+pub read_chunks : {e : Encoding} (samples : List Sample) (chunks : List Chunk) → Read e samples chunks → chunks ≡ chunks_in e samples
+read_chunks {e = e} samples chunks h =
+    h.chunks_are ∙ ap (map (chunk_in e)) (one_parts chunk_samples (lit< tt) samples h.cut (parts chunk_samples samples) (record { joined = h.joined_are; full = h.full }) (parts_are chunk_samples (lit< tt) samples))
 
 -- ---- what is left of a row
 
-pub record Left (files : List Text) (metas : List ChunkMeta) (samples all : List Sample) : Type 0 where
+pub record Left (e : Encoding) (files : List Text) (metas : List ChunkMeta) (samples all : List Sample) : Type 0 where
   pub others : List (List Sample)
   pub is : all ≡ samples ++ joined others
-  pub there : AreThere files metas others
+  pub there : AreThere e files metas others
   pub full : AreFull chunk_samples others
   pub seam : 0 < length others → length samples % chunk_samples ≡ 0
 
-pub left_all : (files : List Text) (metas : List ChunkMeta) (all : List Sample) → AreThere files metas (parts chunk_samples all) → Left files metas [] all
-left_all files metas all h =
+pub left_all : (e : Encoding) (files : List Text) (metas : List ChunkMeta) (all : List Sample) → AreThere e files metas (parts chunk_samples all) → Left e files metas [] all
+left_all e files metas all h =
     let p = parts_are chunk_samples (lit< tt) all in
     record { others = parts chunk_samples all; is = sym p.joined; there = h; full = p.full; seam = λ _. refl }
 
 -- the next chunk of the row
-pub record Next (files : List Text) (m : ChunkMeta) (ms : List ChunkMeta) (samples all : List Sample) : Type 0 where
+pub record Next (e : Encoding) (files : List Text) (m : ChunkMeta) (ms : List ChunkMeta) (samples all : List Sample) : Type 0 where
   pub part : List Sample
   pub chunk : IsChunk part
-  pub there : StandsAt files m.reference (chunk_text part)
+  pub there : StandsAt e files m.reference (data_in e part)
   pub follows : MayFollow samples part
-  pub left : (after : List Sample) → after ≡ samples ++ part → Left files ms after all
+  pub left : (after : List Sample) → after ≡ samples ++ part → Left e files ms after all
 
 pub first_time-append : (a b : List Sample) → 0 < length a → first_time (a ++ b) ≡ first_time a
 first_time-append [] b some = absurd (omega (arith, some))
 first_time-append (x ∷ a) b some = refl
 
-pub next_left : (files : List Text) (m : ChunkMeta) (ms : List ChunkMeta) (samples all : List Sample) → IsColumn all → Left files (m ∷ ms) samples all → Next files m ms samples all
-next_left files m ms samples all col h = by h.others h.is h.there h.full h.seam
+pub next_left : {e : Encoding} (files : List Text) (m : ChunkMeta) (ms : List ChunkMeta) (samples all : List Sample) → IsColumn all → Left e files (m ∷ ms) samples all → Next e files m ms samples all
+next_left {e = d} files m ms samples all col h = by h.others h.is h.there h.full h.seam
   where
-    by : (others : List (List Sample)) → all ≡ samples ++ joined others → AreThere files (m ∷ ms) others → AreFull chunk_samples others → (0 < length others → length samples % chunk_samples ≡ 0) → Next files m ms samples all
+    by : (others : List (List Sample)) → all ≡ samples ++ joined others → AreThere d files (m ∷ ms) others → AreFull chunk_samples others → (0 < length others → length samples % chunk_samples ≡ 0) → Next d files m ms samples all
     by [] is there full seam = absurd there
     by (p ∷ more) is there full seam =
         let rises : Rises (samples ++ (p ++ joined more)) = subst Rises is col.rises in
@@ -164,23 +167,23 @@ next_left files m ms samples all col h = by h.others h.is h.there h.full h.seam
           };
         }
 
-pub left_none : (files : List Text) (samples all : List Sample) → Left files [] samples all → samples ≡ all
-left_none files samples all h = by h.others h.is h.there
+pub left_none : {e : Encoding} (files : List Text) (samples all : List Sample) → Left e files [] samples all → samples ≡ all
+left_none {e = e} files samples all h = by h.others h.is h.there
   where
-    by : (others : List (List Sample)) → all ≡ samples ++ joined others → AreThere files [] others → samples ≡ all
+    by : (others : List (List Sample)) → all ≡ samples ++ joined others → AreThere e files [] others → samples ≡ all
     by [] is there = sym (is ∙ append-nil samples)
     by (p ∷ more) is there = absurd there
 
 -- ---- the steps of the loop
 
-pub begun : (samples : List Sample) (chunks : List Chunk) → samples ≡ [] → chunks ≡ [] → Read samples chunks
-begun samples chunks e k = subst (λ (xs : List Sample). Read xs chunks) (sym e) (subst (Read []) (sym k) read_none)
+pub begun : (e : Encoding) (samples : List Sample) (chunks : List Chunk) → samples ≡ [] → chunks ≡ [] → Read e samples chunks
+begun e samples chunks n k = subst (λ (xs : List Sample). Read e xs chunks) (sym n) (subst (Read e []) (sym k) (read_none e))
 
-pub left_begun : (files : List Text) (metas : List ChunkMeta) (samples all : List Sample) → samples ≡ [] → AreThere files metas (parts chunk_samples all) → Left files metas samples all
-left_begun files metas samples all e h = subst (λ (xs : List Sample). Left files metas xs all) (sym e) (left_all files metas all h)
+pub left_begun : (e : Encoding) (files : List Text) (metas : List ChunkMeta) (samples all : List Sample) → samples ≡ [] → AreThere e files metas (parts chunk_samples all) → Left e files metas samples all
+left_begun e files metas samples all n h = subst (λ (xs : List Sample). Left e files metas xs all) (sym n) (left_all e files metas all h)
 
-pub next_at : (files : List Text) (metas : List ChunkMeta) (i : ℕ) (d : ChunkMeta) (samples all : List Sample) → i < length metas → IsColumn all → Left files (drop i metas) samples all → Next files (get_or metas i d) (drop (i + 1) metas) samples all
-next_at files metas i d samples all lt col h = next_left files (get_or metas i d) (drop (i + 1) metas) samples all col (subst (λ (ms : List ChunkMeta). Left files ms samples all) (rw add-one (drop-cons metas i d lt)) h)
+pub next_at : {e : Encoding} (files : List Text) (metas : List ChunkMeta) (i : ℕ) (d : ChunkMeta) (samples all : List Sample) → i < length metas → IsColumn all → Left e files (drop i metas) samples all → Next e files (get_or metas i d) (drop (i + 1) metas) samples all
+next_at {e = e} files metas i d samples all lt col h = next_left files (get_or metas i d) (drop (i + 1) metas) samples all col (subst (λ (ms : List ChunkMeta). Left e files ms samples all) (rw add-one (drop-cons metas i d lt)) h)
 
 pub followed : (b : Bool) (before part lent others : List Sample) → lent ≡ before → others ≡ part → (IsTrue b → MayFollow lent others) → b ≡ true → MayFollow before part
 followed b before part lent others e k f t = subst (λ (xs : List Sample). MayFollow xs part) e (subst (MayFollow lent) k (f t))
@@ -190,8 +193,8 @@ not_followed b before part lent others e k f t h =
     let yes : b ≡ true = f (subst (λ (xs : List Sample). MayFollow xs others) (sym e) (subst (MayFollow before) (sym k) h)) in
     absurd cc
 
-pub left_over : (files : List Text) (metas : List ChunkMeta) (i : ℕ) (samples all : List Sample) → length metas ≤ i → Left files (drop i metas) samples all → samples ≡ all
-left_over files metas i samples all le h = left_none files samples all (subst (λ (ms : List ChunkMeta). Left files ms samples all) (none (drop i metas) (omega (arith, length-drop i metas, le))) h)
+pub left_over : {e : Encoding} (files : List Text) (metas : List ChunkMeta) (i : ℕ) (samples all : List Sample) → length metas ≤ i → Left e files (drop i metas) samples all → samples ≡ all
+left_over {e = d} files metas i samples all le h = left_none files samples all (subst (λ (ms : List ChunkMeta). Left d files ms samples all) (none (drop i metas) (omega (arith, length-drop i metas, le))) h)
   where
     none : (ys : List ChunkMeta) → length ys ≡ 0 → ys ≡ []
     none [] e = refl
@@ -221,13 +224,21 @@ samples_short before [] = omega arith
 samples_short before (s ∷ rest) =
     omega (arith, time_short before s.time, samples_short (Some s.time) rest, length-append (time_text before s.time ++ value_text s.value) (samples_text (Some s.time) rest), length-append (time_text before s.time) (value_text s.value))
 
-cut_short : (ps : List (List Sample)) → AreFull chunk_samples ps → All (λ body. length body ≤ longest_chunk) (row_texts (map chunk_of ps))
-cut_short [] f = All-nil (λ body. length body ≤ longest_chunk)
-cut_short (p ∷ ps) f =
-    All-cons (λ body. length body ≤ longest_chunk) (chunk_text p) (row_texts (map chunk_of ps)) (omega (arith, few_first p ps f, samples_short None p)) (cut_short ps (full_rest p ps f))
+-- what is said of the other encoding by its own law
+abbrev pub AreXorShort : Type 0
+AreXorShort = (samples : List Sample) → length samples ≤ 120 → length (xor_text samples) ≤ 2180
 
-pub chunks_short : (samples : List Sample) → All (λ body. length body ≤ longest_chunk) (row_texts (chunks_of samples))
-chunks_short samples = cut_short (parts chunk_samples samples) (parts_are chunk_samples (lit< tt) samples).full
+pub data_short : (e : Encoding) → AreXorShort → (p : List Sample) → length p ≤ chunk_samples → length (data_in e p) ≤ longest_chunk
+data_short Raw short p few = omega (arith, few, samples_short None p)
+data_short Xor short p few = short p few
 
-pub lent_short : (lent chunks : List Chunk) (samples : List Sample) → lent ≡ chunks → chunks ≡ chunks_of samples → All (λ body. length body ≤ longest_chunk) (row_texts lent)
-lent_short lent chunks samples e k = subst (λ (cs : List Chunk). All (λ body. length body ≤ longest_chunk) (row_texts cs)) (sym (e ∙ k)) (chunks_short samples)
+cut_short : (e : Encoding) → AreXorShort → (ps : List (List Sample)) → AreFull chunk_samples ps → All (λ body. length body ≤ longest_chunk) (row_texts (map (chunk_in e) ps))
+cut_short e short [] f = All-nil (λ body. length body ≤ longest_chunk)
+cut_short e short (p ∷ ps) f =
+    All-cons (λ body. length body ≤ longest_chunk) (data_in e p) (row_texts (map (chunk_in e) ps)) (data_short e short p (few_first p ps f)) (cut_short e short ps (full_rest p ps f))
+
+pub chunks_short : (e : Encoding) → AreXorShort → (samples : List Sample) → All (λ body. length body ≤ longest_chunk) (row_texts (chunks_in e samples))
+chunks_short e short samples = cut_short e short (parts chunk_samples samples) (parts_are chunk_samples (lit< tt) samples).full
+
+pub lent_short : (e : Encoding) → AreXorShort → (lent chunks : List Chunk) (samples : List Sample) → lent ≡ chunks → chunks ≡ chunks_in e samples → All (λ body. length body ≤ longest_chunk) (row_texts lent)
+lent_short e short lent chunks samples l k = subst (λ (cs : List Chunk). All (λ body. length body ≤ longest_chunk) (row_texts cs)) (sym (l ∙ k)) (chunks_short e short samples)

@@ -10,16 +10,15 @@ use Rattle.hw_bytes.proofs.Lists.{flat_map-push}
 use Rattle.head_column.specs.declared.items.Run.{Run}
 use Rattle.head_column.specs.declared.items.Sample.{Sample}
 use Rattle.head_column.specs.declared.chunk.Chunk.{Chunk}
-use Rattle.head_column.specs.Chunks.{AreFull, chunk_of, chunk_samples, chunks_of, parts}
+use Rattle.block_files.specs.declared.encoding.Encoding.{Encoding}
+use Rattle.head_column.specs.Chunks.{AreFull, chunk_samples, parts}
 use Rattle.head_column.specs.Hours.{HasTime, IsEdge, hour_start, is_in_hour}
 use Rattle.head_column.proofs.HourLaws.{between, is_first, is_last, one_hour}
 use Rattle.head_column.proofs.Parts.{parts_are}
-use Rattle.block_text.specs.Sums.{Text}
-use Rattle.block_files.specs.Files.{all_texts, row_texts, texts}
-use Rattle.block_files.proofs.RowLaws.{flat, whole}
-use Rattle.block_read.specs.Blocks.{IsColumn, IsWithin, chunks_of_rows}
+use Rattle.block_files.specs.Files.{all_texts, row_texts}
+use Rattle.block_files.proofs.RowLaws.{whole}
+use Rattle.block_read.specs.Blocks.{IsColumn, IsWithin, chunk_count, chunk_in, chunks_in, chunks_of_rows}
 use Rattle.block_read.specs.Reading.{AreOfHour}
-use Rattle.block_read.proofs.AllRows.{texts_push}
 use Rattle.block_read.proofs.Columns.{joined}
 
 -- ---- hours
@@ -97,15 +96,28 @@ parts_count (p ∷ q ∷ more) f = omega (arith, f.0, parts_count (q ∷ more) f
 up : (n : ℕ) → (n + 119) / 120 ≡ n / 120 + min 1 (n % 120)
 up n = omega arith
 
-pub chunks_count : (row : List Sample) → length (row_texts (chunks_of row)) ≡ length row / 120 + min 1 (length row % 120)
-chunks_count row =
+pub parts_of : (row : List Sample) → length (parts chunk_samples row) ≡ length row / 120 + min 1 (length row % 120)
+parts_of row =
     let p = parts_are chunk_samples (lit< tt) row in
-    length-map (chunks_of row) (λ (c : Chunk). c.text) ∙ length-map (parts chunk_samples row) chunk_of ∙ parts_count (parts chunk_samples row) p.full ∙ ap (λ (t : List Sample). (length t + 119) / 120) p.joined ∙ up (length row)
+    parts_count (parts chunk_samples row) p.full ∙ ap (λ (t : List Sample). (length t + 119) / 120) p.joined ∙ up (length row)
 
-pub chunks_more : (rows : List (List Sample)) (i : ℕ) (row : List Sample) → i < length rows → row ≡ get_or rows i row → length (all_texts (chunks_of_rows (take (i + 1) rows))) ≡ length (all_texts (chunks_of_rows (take i rows))) + (length row / 120 + min 1 (length row % 120))
+pub chunks_more : (rows : List (List Sample)) (i : ℕ) (row : List Sample) → i < length rows → row ≡ get_or rows i row → chunk_count (take (i + 1) rows) ≡ chunk_count (take i rows) + (length row / 120 + min 1 (length row % 120))
 chunks_more rows i row lt e =
-    let front : List (List Sample) = take i rows in
-    let last : List Text = row_texts (chunks_of (get_or rows i row)) in
-    ap (λ (t : List (List Sample)). length (all_texts (chunks_of_rows t))) (take_more rows i row lt) ∙ ap (λ (t : List (List Text)). length (flat t)) (texts_push (take i rows) (get_or rows i row))
-    ∙ ap length (flat_map-push (λ r. r) (texts (chunks_of_rows (take i rows))) (row_texts (chunks_of (get_or rows i row)))) ∙ length-append (flat (texts (chunks_of_rows (take i rows)))) (row_texts (chunks_of (get_or rows i row)))
-    ∙ ap (λ (t : List Sample). length (all_texts (chunks_of_rows (take i rows))) + length (row_texts (chunks_of t))) (sym e) ∙ ap (λ n. length (all_texts (chunks_of_rows (take i rows))) + n) (chunks_count row)
+    ap chunk_count (take_more rows i row lt) ∙ ap length (flat_map-push (parts chunk_samples) (take i rows) (get_or rows i row))
+    ∙ length-append (flat_map (parts chunk_samples) (take i rows)) (parts chunk_samples (get_or rows i row))
+    ∙ ap (λ (t : List Sample). chunk_count (take i rows) + length (parts chunk_samples t)) (sym e) ∙ ap (λ n. chunk_count (take i rows) + n) (parts_of row)
+
+-- Rows have as many chunks in each encoding.
+pub row_counted : (e : Encoding) (row : List Sample) → length (row_texts (chunks_in e row)) ≡ length (parts chunk_samples row)
+row_counted e row = length-map (chunks_in e row) (λ (c : Chunk). c.text) ∙ length-map (parts chunk_samples row) (chunk_in e)
+
+pub chunks_counted : (e : Encoding) (samples : List (List Sample)) → length (all_texts (chunks_of_rows e samples)) ≡ chunk_count samples
+chunks_counted e [] = refl
+chunks_counted e (s ∷ samples) =
+    omega (
+      arith,
+      row_counted e s,
+      chunks_counted e samples,
+      length-append (row_texts (chunks_in e s)) (all_texts (chunks_of_rows e samples)),
+      length-append (parts chunk_samples s) (flat_map (parts chunk_samples) samples),
+    )

@@ -3,6 +3,7 @@ use Rattle.std.proofs.Common.{◌≡◌, List, [], ◌∷◌, map, refl, sym, ap
 use Rattle.std.specs.List.{zip}
 use Rattle.index_parts.specs.declared.row.ChunkMeta.{ChunkMeta}
 use Rattle.index_parts.specs.declared.row.IndexRow.{IndexRow}
+use Rattle.block_files.specs.declared.encoding.Encoding.{Encoding}
 use Rattle.block_read.specs.declared.rows.BlockRow.{BlockRow}
 use Rattle.block_read.specs.Blocks.{index_rows, metas_of, samples_of_rows}
 
@@ -18,7 +19,7 @@ joined (o ∷ ours) (r ∷ rows) e =
     ∙ ap (λ (t : List IndexRow). r ∷ t) (joined ours rows others)
 
 -- rows with the labels of an index's rows, and with samples whose chunks it names, have that index
-pub index_rows_are : (ours : List BlockRow) (rows : List IndexRow) → map (λ (r : BlockRow). r.labels) ours ≡ map (λ (r : IndexRow). r.labels) rows → map (λ (r : IndexRow). r.chunks) rows ≡ metas_of (samples_of_rows ours) → index_rows ours ≡ rows
+pub index_rows_are : (e : Encoding) (ours : List BlockRow) (rows : List IndexRow) → map (λ (r : BlockRow). r.labels) ours ≡ map (λ (r : IndexRow). r.labels) rows → map (λ (r : IndexRow). r.chunks) rows ≡ metas_of e (samples_of_rows ours) → index_rows e ours ≡ rows
 unfolding index_rows
-index_rows_are ours rows labels named =
+index_rows_are e ours rows labels named =
     ap (λ (ms : List (List ChunkMeta)). map (λ (x : BlockRow × List ChunkMeta). let y : IndexRow = record { labels = x.0.labels; chunks = x.1 } in y) (zip ours ms)) (sym named) ∙ joined ours rows labels

@@ -10,3 +10,5 @@ pub mod Assembled
 pub mod Popped
 pub mod Whole
 pub mod Few
+pub mod First
+pub mod Rising

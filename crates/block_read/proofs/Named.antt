@@ -14,20 +14,21 @@ use Rattle.wal_record.specs.Labels.{IsLabelSet, compare_labels}
 use Rattle.head_column.specs.declared.items.Sample.{Sample}
 use Rattle.head_column.specs.declared.chunk.Chunk.{Chunk}
 use Rattle.head_column.specs.Samples.{Rises}
-use Rattle.head_column.specs.Chunks.{AreFull, IsFit, chunk_of, chunk_samples, chunks_of, first_time, last_time, parts}
+use Rattle.head_column.specs.Chunks.{AreFull, IsFit, chunk_samples, first_time, last_time, parts}
 use Rattle.head_column.proofs.Parts.{parts_are}
 use Rattle.block_text.specs.Sums.{Text}
 use Rattle.index_parts.specs.declared.row.ChunkMeta.{ChunkMeta}
 use Rattle.index_parts.specs.declared.row.IndexRow.{IndexRow}
 use Rattle.index_parts.specs.Rows.{AreRows, FitsChunk, IsChain, IsRow}
+use Rattle.block_files.specs.declared.encoding.Encoding.{Encoding}
 use Rattle.block_files.specs.Files.{chunk_element, chunk_files, last_reference, reference_behind, row_references, row_texts, texts, with_chunk}
 use Rattle.block_files.proofs.FileLaws.{last_reference_at}
 use Rattle.block_files.proofs.Placed.{placed}
 use Rattle.block_files.proofs.RowLaws.{all_files, all_first, all_second, along_count, along_same, flat}
 use Rattle.block_read.specs.declared.rows.BlockRow.{BlockRow}
-use Rattle.block_read.specs.Blocks.{HasSamples, IsColumn, chunks_of_rows, file_limit, files_of, index_rows, meta_of, metas_of, samples_of_rows}
+use Rattle.block_read.specs.Blocks.{HasSamples, IsColumn, chunk_in, chunks_in, chunks_of_rows, file_limit, files_of, index_rows, meta_of, metas_of, samples_of_rows}
 use Rattle.block_read.specs.Reading.{files_with, row_metas}
-use Rattle.block_read.proofs.AllRows.{has_at, metas_count}
+use Rattle.block_read.proofs.AllRows.{metas_count, row_at}
 use Rattle.block_read.proofs.Columns.{first_time-append, full_rest, joined, rises_first, rises_seam, rises_second, some_first}
 
 pub each_by : {X : Type 0} (P : X → Type 0) (xs : List X) → ((i : ℕ) (x : X) → i < length xs → x ≡ get_or xs i x → P x) → AllByRecursion P xs
@@ -36,31 +37,31 @@ each_by P (x ∷ xs) h = (h 0 x (omega arith) refl, each_by P xs (λ i y lt e. h
 
 -- ---- references
 
-small_reference : (before : List Text) (body : Text) → length (chunk_files file_limit (before ++ body ∷ [])) ≤ 2 ^ 32 → reference_behind file_limit before body < 2 ^ 64
+small_reference : (e : Encoding) (before : List Text) (body : Text) → length (chunk_files e file_limit (before ++ body ∷ [])) ≤ 2 ^ 32 → reference_behind e file_limit before body < 2 ^ 64
 unfolding reference_behind
-small_reference before body few =
-    let p = placed file_limit (chunk_files file_limit before) body (lit< tt) in
-    let now : chunk_files file_limit (before ++ body ∷ []) ≡ p.full ++ (p.front ++ chunk_element body) ∷ [] = fold-append (with_chunk file_limit) [] before (body ∷ []) ∙ p.is in
-    let reference : last_reference (chunk_files file_limit (before ++ body ∷ [])) body ≡ length p.full * 2 ^ 32 + length p.front = ap (λ (fs : List Text). last_reference fs body) now ∙ last_reference_at p.full p.front body in
-    let count : length (chunk_files file_limit (before ++ body ∷ [])) ≡ length p.full + 1 = ap length now ∙ length-append p.full ((p.front ++ chunk_element body) ∷ []) in
+small_reference e before body few =
+    let p = placed e file_limit (chunk_files e file_limit before) body (lit< tt) in
+    let now : chunk_files e file_limit (before ++ body ∷ []) ≡ p.full ++ (p.front ++ chunk_element e body) ∷ [] = fold-append (with_chunk e file_limit) [] before (body ∷ []) ∙ p.is in
+    let reference : last_reference e (chunk_files e file_limit (before ++ body ∷ [])) body ≡ length p.full * 2 ^ 32 + length p.front = ap (λ (fs : List Text). last_reference e fs body) now ∙ last_reference_at e p.full p.front body in
+    let count : length (chunk_files e file_limit (before ++ body ∷ [])) ≡ length p.full + 1 = ap length now ∙ length-append p.full ((p.front ++ chunk_element e body) ∷ []) in
     rw reference (omega (arith, few, count, p.low))
 
-fewer : (before more : List Text) → length (chunk_files file_limit before) ≤ length (chunk_files file_limit (before ++ more))
-fewer before more = rw (fold-append (with_chunk file_limit) [] before more) (all_files file_limit (chunk_files file_limit before) more)
+fewer : (e : Encoding) (before more : List Text) → length (chunk_files e file_limit before) ≤ length (chunk_files e file_limit (before ++ more))
+fewer e before more = rw (fold-append (with_chunk e file_limit) [] before more) (all_files e file_limit (chunk_files e file_limit before) more)
 
-small_references : (done row : List Text) → length (chunk_files file_limit (done ++ row)) ≤ 2 ^ 32 → AllByRecursion (λ r. r < 2 ^ 64) (along (λ others body. reference_behind file_limit (done ++ others) body ∷ []) row)
-small_references done [] few = tt
-small_references done (body ∷ row) few =
+small_references : (e : Encoding) (done row : List Text) → length (chunk_files e file_limit (done ++ row)) ≤ 2 ^ 32 → AllByRecursion (λ r. r < 2 ^ 64) (along (λ others body. reference_behind e file_limit (done ++ others) body ∷ []) row)
+small_references e done [] few = tt
+small_references e done (body ∷ row) few =
     let all : (done ++ body ∷ []) ++ row ≡ done ++ body ∷ row = append_assoc done (body ∷ []) row in
-    let less = fewer (done ++ body ∷ []) row in
-    let here = small_reference done body (omega (arith, few, less, ap (λ (t : List Text). length (chunk_files file_limit t)) all)) in
-    let more = small_references (done ++ body ∷ []) row (omega (arith, few, ap (λ (t : List Text). length (chunk_files file_limit t)) all)) in
-    (subst (λ (d : List Text). reference_behind file_limit d body < 2 ^ 64) (sym (append-nil done)) here, behind done body row more)
+    let less = fewer e (done ++ body ∷ []) row in
+    let here = small_reference e done body (omega (arith, few, less, ap (λ (t : List Text). length (chunk_files e file_limit t)) all)) in
+    let more = small_references e (done ++ body ∷ []) row (omega (arith, few, ap (λ (t : List Text). length (chunk_files e file_limit t)) all)) in
+    (subst (λ (d : List Text). reference_behind e file_limit d body < 2 ^ 64) (sym (append-nil done)) here, behind done body row more)
   where
-    behind : (done : List Text) (body : Text) (row : List Text) → AllByRecursion (λ r. r < 2 ^ 64) (along (λ others b. reference_behind file_limit ((done ++ body ∷ []) ++ others) b ∷ []) row)
-        → AllByRecursion (λ r. r < 2 ^ 64) (along (λ others b. reference_behind file_limit (done ++ (body ∷ others)) b ∷ []) row)
-    behind done body row h = subst (AllByRecursion (λ r. r < 2 ^ 64)) (along_same (λ others b. reference_behind file_limit ((done ++ body ∷ []) ++ others) b ∷ []) (λ others b. reference_behind file_limit (done ++ (body ∷ others)) b ∷ []) row
-        (λ others b. ap (λ (d : List Text). reference_behind file_limit d b ∷ []) (append_assoc done (body ∷ []) others))) h
+    behind : (done : List Text) (body : Text) (row : List Text) → AllByRecursion (λ r. r < 2 ^ 64) (along (λ others b. reference_behind e file_limit ((done ++ body ∷ []) ++ others) b ∷ []) row)
+        → AllByRecursion (λ r. r < 2 ^ 64) (along (λ others b. reference_behind e file_limit (done ++ (body ∷ others)) b ∷ []) row)
+    behind done body row h = subst (AllByRecursion (λ r. r < 2 ^ 64)) (along_same (λ others b. reference_behind e file_limit ((done ++ body ∷ []) ++ others) b ∷ []) (λ others b. reference_behind e file_limit (done ++ (body ∷ others)) b ∷ []) row
+        (λ others b. ap (λ (d : List Text). reference_behind e file_limit d b ∷ []) (append_assoc done (body ∷ []) others))) h
 
 -- ---- the names of a row's chunks
 
@@ -85,10 +86,10 @@ pub record AreNames (metas : List ChunkMeta) : Type 0 where
   pub forward : AllByRecursion (λ (c : ChunkMeta). c.min_time ≤ℤ c.max_time) metas
   pub apart : IsChain (λ (a b : ChunkMeta). a.max_time <ℤ b.min_time) metas
 
-names : (ps : List (List Sample)) (rs : List ℕ) → AreFull chunk_samples ps → 0 < length ps → Rises (joined ps) → All IsFit (joined ps) → AllByRecursion (λ r. r < 2 ^ 64) rs → length rs ≡ length ps → AreNames (map meta_of (zip (map chunk_of ps) rs))
-names [] rs full some rises fit small n = absurd (omega (arith, some))
-names (p ∷ ps) [] full some rises fit small n = absurd (omega (arith, n))
-names (p ∷ []) (r ∷ rs) full some rises fit small n =
+names : (e : Encoding) (ps : List (List Sample)) (rs : List ℕ) → AreFull chunk_samples ps → 0 < length ps → Rises (joined ps) → All IsFit (joined ps) → AllByRecursion (λ r. r < 2 ^ 64) rs → length rs ≡ length ps → AreNames (map meta_of (zip (map (chunk_in e) ps) rs))
+names e [] rs full some rises fit small n = absurd (omega (arith, some))
+names e (p ∷ ps) [] full some rises fit small n = absurd (omega (arith, n))
+names e (p ∷ []) (r ∷ rs) full some rises fit small n =
     let one = rises_first p (joined []) rises in
     let fits = all_first IsFit p (joined []) fit in
     record {
@@ -97,13 +98,13 @@ names (p ∷ []) (r ∷ rs) full some rises fit small n =
       forward = (first_last p one, tt);
       apart = tt;
     }
-names (p ∷ q ∷ more) (r ∷ []) full some rises fit small n = absurd (omega (arith, n))
-names (p ∷ q ∷ more) (r ∷ s ∷ rs) full some rises fit small n =
+names e (p ∷ q ∷ more) (r ∷ []) full some rises fit small n = absurd (omega (arith, n))
+names e (p ∷ q ∷ more) (r ∷ s ∷ rs) full some rises fit small n =
     let one = rises_first p (joined (q ∷ more)) rises in
     let fits = all_first IsFit p (joined (q ∷ more)) fit in
     let begun = some_first p (q ∷ more) full in
     let follows = some_first q more (full_rest p (q ∷ more) full) in
-    let rest = names (q ∷ more) (s ∷ rs) (full_rest p (q ∷ more) full) (omega arith) (rises_second p (joined (q ∷ more)) rises) (all_second IsFit p (joined (q ∷ more)) fit) small.1 (omega (arith, n)) in
+    let rest = names e (q ∷ more) (s ∷ rs) (full_rest p (q ∷ more) full) (omega arith) (rises_second p (joined (q ∷ more)) rises) (all_second IsFit p (joined (q ∷ more)) fit) small.1 (omega (arith, n)) in
     let seam : last_time p <ℤ first_time (q ++ joined more) = rises_seam p (joined (q ∷ more)) begun (omega (arith, follows, length-append q (joined more))) rises in
     record {
       some = omega arith;
@@ -112,16 +113,16 @@ names (p ∷ q ∷ more) (r ∷ s ∷ rs) full some rises fit small n =
       apart = (subst (λ t. last_time p <ℤ t) (first_time-append q (joined more) follows) seam, rest.apart);
     }
 
-pub row_named : (before : List (List Text)) (samples : List Sample) → IsColumn samples → length (files_with (before ++ row_texts (chunks_of samples) ∷ [])) ≤ 2 ^ 32 → AreNames (row_metas before samples)
-row_named before samples h few =
+pub row_named : (e : Encoding) (before : List (List Text)) (samples : List Sample) → IsColumn samples → length (files_with e (before ++ row_texts (chunks_in e samples) ∷ [])) ≤ 2 ^ 32 → AreNames (row_metas e before samples)
+row_named e before samples h few =
     let p = parts_are chunk_samples (lit< tt) samples in
     let ps : List (List Sample) = parts chunk_samples samples in
-    let ts : List Text = row_texts (chunks_of samples) in
+    let ts : List Text = row_texts (chunks_in e samples) in
     let files : flat (before ++ ts ∷ []) ≡ flat before ++ ts = flat_map-push (λ r. r) before ts in
-    let small = small_references (flat before) ts (omega (arith, few, ap (λ (t : List Text). length (chunk_files file_limit t)) files)) in
-    let count = along_count (λ others body. reference_behind file_limit (flat before ++ others) body) ts in
-    names (parts chunk_samples samples) (row_references file_limit before (row_texts (chunks_of samples))) p.full (some_parts (parts chunk_samples samples) (omega (arith, h.some, ap length p.joined))) (subst Rises (sym p.joined) h.rises) (subst (All IsFit) (sym p.joined) h.fit) small
-    (omega (arith, count, length-map (chunks_of samples) (λ (c : Chunk). c.text), length-map (parts chunk_samples samples) chunk_of))
+    let small = small_references e (flat before) ts (omega (arith, few, ap (λ (t : List Text). length (chunk_files e file_limit t)) files)) in
+    let count = along_count (λ others body. reference_behind e file_limit (flat before ++ others) body) ts in
+    names e (parts chunk_samples samples) (row_references e file_limit before (row_texts (chunks_in e samples))) p.full (some_parts (parts chunk_samples samples) (omega (arith, h.some, ap length p.joined))) (subst Rises (sym p.joined) h.rises) (subst (All IsFit) (sym p.joined) h.fit) small
+    (omega (arith, count, length-map (chunks_in e samples) (λ (c : Chunk). c.text), length-map (parts chunk_samples samples) (chunk_in e)))
   where
     some_parts : (qs : List (List Sample)) → 0 < length (joined qs) → 0 < length qs
     some_parts [] some = absurd (omega (arith, some))
@@ -129,21 +130,21 @@ row_named before samples h few =
 
 -- ---- rows of an index
 
-is_row : (files : List Text) (rows : List IndexRow) (samples : List (List Sample)) (i : ℕ) (r : IndexRow) → i < length rows → r ≡ get_or rows i r → HasSamples files rows samples → AreNames r.chunks
-is_row files rows samples i r lt e h =
-    let here = has_at files rows samples i r lt e h in
-    subst AreNames (sym here.named) (row_named (texts (chunks_of_rows (take i samples))) (get_or samples i []) here.column here.few)
+is_row : {e : Encoding} (files : List Text) (rows : List IndexRow) (samples : List (List Sample)) (i : ℕ) (r : IndexRow) → i < length rows → r ≡ get_or rows i r → HasSamples e files rows samples → AreNames r.chunks
+is_row {e = e} files rows samples i r lt is h =
+    let here = row_at files rows samples i r lt is h in
+    subst AreNames (sym here.named) (row_named e (texts (chunks_of_rows e (take i samples))) (get_or samples i []) here.column here.few)
 
 with_labels : (rows : List IndexRow) → AllByRecursion (λ (r : IndexRow). IsLabelSet r.labels) rows → AllByRecursion (λ (r : IndexRow). AreNames r.chunks) rows → AllByRecursion IsRow rows
 with_labels [] p q = tt
 with_labels (r ∷ rows) p q = (record { labels = p.0; some = q.0.some; fit = q.0.fit; forward = q.0.forward; apart = q.0.apart }, with_labels rows p.1 q.1)
 
 -- Rows in the order of their label sets, whose chunks have these samples, are the rows of an index.
-pub are_rows : (files : List Text) (rows : List IndexRow) (samples : List (List Sample)) → HasSamples files rows samples → 0 < length rows → AllByRecursion (λ (r : IndexRow). IsLabelSet r.labels) rows
+pub are_rows : {e : Encoding} (files : List Text) (rows : List IndexRow) (samples : List (List Sample)) → HasSamples e files rows samples → 0 < length rows → AllByRecursion (λ (r : IndexRow). IsLabelSet r.labels) rows
     → IsChain (λ (a b : IndexRow). compare_labels a.labels b.labels ≡ Less) rows → AreRows rows
 are_rows files rows samples h some labels ascending = record {
   some = some;
-  each = with_labels rows labels (each_by (λ (r : IndexRow). AreNames r.chunks) rows (λ i r lt e. is_row files rows samples i r lt e h));
+  each = with_labels rows labels (each_by (λ (r : IndexRow). AreNames r.chunks) rows (λ i r lt is. is_row files rows samples i r lt is h));
   ascending = ascending;
 }
 
@@ -164,27 +165,27 @@ labels_kept [] (m ∷ metas) n = absurd (omega (arith, n))
 labels_kept (r ∷ rows) [] n = absurd (omega (arith, n))
 labels_kept (r ∷ rows) (m ∷ metas) n = ap (λ ls. r.labels ∷ ls) (labels_kept rows metas (omega (arith, n)))
 
-as_many_metas : (rows : List BlockRow) → length (metas_of (samples_of_rows rows)) ≡ length rows
-as_many_metas rows = metas_count (samples_of_rows rows) ∙ length-map rows (λ (r : BlockRow). r.samples)
+as_many_metas : (e : Encoding) (rows : List BlockRow) → length (metas_of e (samples_of_rows rows)) ≡ length rows
+as_many_metas e rows = metas_count e (samples_of_rows rows) ∙ length-map rows (λ (r : BlockRow). r.samples)
 
-pub index_chunks : (rows : List BlockRow) → map (λ (r : IndexRow). r.chunks) (index_rows rows) ≡ metas_of (samples_of_rows rows)
+pub index_chunks : (e : Encoding) (rows : List BlockRow) → map (λ (r : IndexRow). r.chunks) (index_rows e rows) ≡ metas_of e (samples_of_rows rows)
 unfolding index_rows
-index_chunks rows = chunks_kept rows (metas_of (samples_of_rows rows)) (as_many_metas rows)
+index_chunks e rows = chunks_kept rows (metas_of e (samples_of_rows rows)) (as_many_metas e rows)
 
-pub index_labels : (rows : List BlockRow) → map (λ (r : IndexRow). r.labels) (index_rows rows) ≡ map (λ (r : BlockRow). r.labels) rows
+pub index_labels : (e : Encoding) (rows : List BlockRow) → map (λ (r : IndexRow). r.labels) (index_rows e rows) ≡ map (λ (r : BlockRow). r.labels) rows
 unfolding index_rows
-index_labels rows = labels_kept rows (metas_of (samples_of_rows rows)) (as_many_metas rows)
+index_labels e rows = labels_kept rows (metas_of e (samples_of_rows rows)) (as_many_metas e rows)
 
-pub index_count : (rows : List BlockRow) → length (index_rows rows) ≡ length rows
-index_count rows = sym (length-map (index_rows rows) (λ (r : IndexRow). r.labels)) ∙ ap length (index_labels rows) ∙ length-map rows (λ (r : BlockRow). r.labels)
+pub index_count : (e : Encoding) (rows : List BlockRow) → length (index_rows e rows) ≡ length rows
+index_count e rows = sym (length-map (index_rows e rows) (λ (r : IndexRow). r.labels)) ∙ ap length (index_labels e rows) ∙ length-map rows (λ (r : BlockRow). r.labels)
 
 columns : (rows : List BlockRow) → AllByRecursion (λ (r : BlockRow). IsColumn r.samples) rows → AllByRecursion IsColumn (samples_of_rows rows)
 columns [] h = tt
 columns (r ∷ rows) h = (h.0, columns rows h.1)
 
 -- The chunk files of some rows have their samples.
-pub has_samples : (rows : List BlockRow) → AllByRecursion (λ (r : BlockRow). IsColumn r.samples) rows → length (files_of (samples_of_rows rows)) ≤ 2 ^ 32 → HasSamples (files_of (samples_of_rows rows)) (index_rows rows) (samples_of_rows rows)
-has_samples rows each few = record { each = columns rows each; files_are = refl; few_files = few; named = index_chunks rows }
+pub has_samples : (e : Encoding) (rows : List BlockRow) → AllByRecursion (λ (r : BlockRow). IsColumn r.samples) rows → length (files_of e (samples_of_rows rows)) ≤ 2 ^ 32 → HasSamples e (files_of e (samples_of_rows rows)) (index_rows e rows) (samples_of_rows rows)
+has_samples e rows each few = record { each = columns rows each; files_are = refl; few_files = few; named = index_chunks e rows }
 
 -- A fact of the label sets of some rows is one of the label sets of others, where they have the same.
 pub labels_are : {X Y L : Type 0} (f : X → L) (g : Y → L) (P : L → Type 0) (xs : List X) (ys : List Y) → map f xs ≡ map g ys → AllByRecursion (λ x. P (f x)) xs → AllByRecursion (λ y. P (g y)) ys
@@ -207,10 +208,10 @@ chain_are f g P (x ∷ w ∷ xs) (y ∷ z ∷ ys) e h =
     (subst (λ l. P l (g z)) first (subst (P (f x)) second h.0), chain_are f g P (w ∷ xs) (z ∷ ys) rest h.1)
 
 -- Rows of a block, in the order of their label sets, have an index, if their chunks need no more than 2^32 files.
-pub rows_of_block : (rows : List BlockRow) → 0 < length rows → AllByRecursion (λ (r : BlockRow). IsLabelSet r.labels) rows → AllByRecursion (λ (r : BlockRow). IsColumn r.samples) rows
-    → IsChain (λ (a b : BlockRow). compare_labels a.labels b.labels ≡ Less) rows → length (files_of (samples_of_rows rows)) ≤ 2 ^ 32 → AreRows (index_rows rows)
-rows_of_block rows some labels each ascending few =
-    let same : map (λ (r : BlockRow). r.labels) rows ≡ map (λ (r : IndexRow). r.labels) (index_rows rows) = sym (index_labels rows) in
-    are_rows (files_of (samples_of_rows rows)) (index_rows rows) (samples_of_rows rows) (has_samples rows each few) (omega (arith, some, index_count rows))
-    (labels_are (λ (r : BlockRow). r.labels) (λ (r : IndexRow). r.labels) IsLabelSet rows (index_rows rows) same labels)
-    (chain_are (λ (r : BlockRow). r.labels) (λ (r : IndexRow). r.labels) (λ a b. compare_labels a b ≡ Less) rows (index_rows rows) same ascending)
+pub rows_of_block : (e : Encoding) (rows : List BlockRow) → 0 < length rows → AllByRecursion (λ (r : BlockRow). IsLabelSet r.labels) rows → AllByRecursion (λ (r : BlockRow). IsColumn r.samples) rows
+    → IsChain (λ (a b : BlockRow). compare_labels a.labels b.labels ≡ Less) rows → length (files_of e (samples_of_rows rows)) ≤ 2 ^ 32 → AreRows (index_rows e rows)
+rows_of_block e rows some labels each ascending few =
+    let same : map (λ (r : BlockRow). r.labels) rows ≡ map (λ (r : IndexRow). r.labels) (index_rows e rows) = sym (index_labels e rows) in
+    are_rows (files_of e (samples_of_rows rows)) (index_rows e rows) (samples_of_rows rows) (has_samples e rows each few) (omega (arith, some, index_count e rows))
+    (labels_are (λ (r : BlockRow). r.labels) (λ (r : IndexRow). r.labels) IsLabelSet rows (index_rows e rows) same labels)
+    (chain_are (λ (r : BlockRow). r.labels) (λ (r : IndexRow). r.labels) (λ a b. compare_labels a b ≡ Less) rows (index_rows e rows) same ascending)

@@ -3,6 +3,8 @@ use Rattle.index_parts.specs.declared.fault.ReadFault.{ReadFault}
 use Rattle.index_parts.specs.declared.fault.ReadFault.TheVariants as read
 use Rattle.head_column.specs.declared.chunk.ChunkFault.{ChunkFault}
 use Rattle.head_column.specs.declared.chunk.ChunkFault.TheVariants as chunk
+use Rattle.xor_chunk.specs.declared.fault.XorFault.{XorFault}
+use Rattle.xor_chunk.specs.declared.fault.XorFault.TheVariants as xor
 use Rattle.block_text.specs.declared.fault.WriteFault.{WriteFault}
 use Rattle.block_text.specs.declared.fault.WriteFault.TheVariants as write
 use Rattle.block_files.specs.declared.tombstones.TombstonesFault.{TombstonesFault}
@@ -26,6 +28,11 @@ of_index read.Memory = block.Memory
 abbrev pub of_chunk : ChunkFault → PartFault
 of_chunk chunk.BadChunk = part.Bad
 of_chunk chunk.Memory = part.Memory
+
+-- the error for one of decoding a chunk in the XOR encoding
+abbrev pub of_xor : XorFault → PartFault
+of_xor xor.Memory = part.Memory
+of_xor other = part.Bad
 
 -- the error for one of writing
 abbrev pub of_write : WriteFault → PartFault

@@ -2,26 +2,27 @@
 use Rattle.std.specs.Prelude.{◌≡◌, ℕ, ℤ, pos, ◌+ℤ◌, All, IsTrue, ◌<◌, ◌%◌, ◌<ℤ◌, List, [], ◌∷◌, length, map}
 use Rattle.std.specs.List.{AllByRecursion, flat_map, zip}
 use Rattle.head_column.specs.declared.items.Sample.{Sample}
-use Rattle.head_column.specs.Chunks.{chunk_samples, chunk_text, chunks_of, first_time, last_time}
+use Rattle.head_column.specs.Chunks.{chunk_samples, first_time, last_time}
 use Rattle.block_text.specs.Sums.{Text}
 use Rattle.index_parts.specs.declared.row.ChunkMeta.{ChunkMeta}
 use Rattle.head_column.specs.Hours.{IsEdge, hour_start, is_in_hour}
+use Rattle.block_files.specs.declared.encoding.Encoding.{Encoding}
 use Rattle.block_files.specs.declared.meta.Meta.{Meta}
-use Rattle.block_files.specs.Files.{StandsAt, all_texts, chunk_files, row_references, row_texts}
+use Rattle.block_files.specs.Files.{StandsAt, chunk_files, row_references, row_texts}
 use Rattle.block_files.specs.Meta.{meta_text}
 use Rattle.block_files.specs.Ulids.{IsUlid}
 use Rattle.head_column.specs.declared.items.Run.{Run}
 use Rattle.head_column.specs.Runs.{AreApart}
 use Rattle.block_files.specs.declared.tombstones.Tombstone.{Tombstone}
 use Rattle.block_files.specs.Tombstones.{tombstones_text}
-use Rattle.block_read.specs.Blocks.{FitsRun, IsWithin, chunks_of_rows, file_limit, meta_of, tombstones_of}
+use Rattle.block_read.specs.Blocks.{FitsRun, IsWithin, chunk_count, chunks_in, data_in, file_limit, meta_of, tombstones_of}
 
 -- the chunks of these lists of samples are at the references of these entries
-abbrev pub AreThere : List Text → List ChunkMeta → List (List Sample) → Type 0
-AreThere files [] [] = Unit {0}
-AreThere files [] (p ∷ ps) = ⊥
-AreThere files (m ∷ ms) [] = ⊥
-AreThere files (m ∷ ms) (p ∷ ps) = StandsAt files m.reference (chunk_text p) × AreThere files ms ps
+abbrev pub AreThere : Encoding → List Text → List ChunkMeta → List (List Sample) → Type 0
+AreThere e files [] [] = Unit {0}
+AreThere e files [] (p ∷ ps) = ⊥
+AreThere e files (m ∷ ms) [] = ⊥
+AreThere e files (m ∷ ms) (p ∷ ps) = StandsAt e files m.reference (data_in e p) × AreThere e files ms ps
 
 -- a chunk with the samples `part` can follow the samples `before`, which fill chunks and have earlier times
 pub record MayFollow (before part : List Sample) : Type 0 where
@@ -29,12 +30,12 @@ pub record MayFollow (before part : List Sample) : Type 0 where
   pub later : 0 < length before → last_time before <ℤ first_time part
 
 -- the entries of the chunks of a row in the index, after the rows `before`
-abbrev pub row_metas : List (List Text) → List Sample → List ChunkMeta
-row_metas before samples = map meta_of (zip (chunks_of samples) (row_references file_limit before (row_texts (chunks_of samples))))
+abbrev pub row_metas : Encoding → List (List Text) → List Sample → List ChunkMeta
+row_metas e before samples = map meta_of (zip (chunks_in e samples) (row_references e file_limit before (row_texts (chunks_in e samples))))
 
 -- the chunk files of rows with these data of chunks
-abbrev pub files_with : List (List Text) → List Text
-files_with rows = chunk_files file_limit (flat_map (λ r. r) rows)
+abbrev pub files_with : Encoding → List (List Text) → List Text
+files_with e rows = chunk_files e file_limit (flat_map (λ r. r) rows)
 
 -- the tombstones of a series with these runs
 abbrev pub entries_of : ℕ → List Run → List Tombstone
@@ -60,7 +61,7 @@ summary ulid hour samples = record {
   max_time = hour_start (hour +ℤ pos 1);
   samples = length (flat_map (λ s. s) samples);
   series = length samples;
-  chunks = length (all_texts (chunks_of_rows samples));
+  chunks = chunk_count samples;
 }
 
 -- all samples are in the hour

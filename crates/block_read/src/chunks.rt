@@ -1,18 +1,21 @@
 //! Reading the chunks of a row.
 
-ghost use Rattle.std.specs.Prelude.{◌≡◌, ◌<◌, List, length, Err, IfOk, IsTrue};
+ghost use Rattle.std.specs.Prelude.{◌≡◌, ◌<◌, All, List, length, Err, IfOk, IsTrue};
 ghost use Rattle.head_column.specs.declared.items.Sample.{Sample as Entry};
-ghost use Rattle.head_column.specs.Chunks.{IsChunk, chunk_of, chunk_samples, chunk_text, chunks_of, first_time, last_time, parts};
+ghost use Rattle.head_column.specs.Chunks.{IsChunk, IsFit, chunk_samples, first_time, last_time, parts};
+ghost use Rattle.head_column.specs.Samples.{Rises};
+ghost use Rattle.xor_chunk.specs.Chunks.{xor_text};
 ghost use Rattle.block_files.specs.Files.{StandsAt};
-ghost use Rattle.block_read.specs.Blocks.{IsColumn};
+ghost use Rattle.block_read.specs.Blocks.{IsColumn, chunk_in, chunks_in, data_in};
 ghost use Rattle.block_read.specs.Reading.{AreThere, MayFollow};
 
 use crate::fault::PartFault;
-use block_files::chunk_at;
+use block_files::{Encoding, chunk_at};
 use block_index::ChunkMeta;
 use head_column::{CHUNK_SAMPLES, Chunk, Sample, decode_chunk};
 use hw_bytes::Items;
 use std::alloc::Global;
+use xor_chunk::decode_exact;
 
 // A chunk with its samples.
 #[derive(Debug, Drop)]
@@ -51,17 +54,75 @@ fn last_time_of(samples: &[Sample]) -> i64
     time_of(&samples[samples.len() - 1])
 }
 
-// Reads the chunk at a reference.
-fn read_chunk(alloc: Global, files: &[Items<u8>], reference: u64) -> Result<ReadChunk, PartFault>
-    ensures found { IfOk result (λ read. IsChunk read.samples.items) }
-    ensures chunk { IfOk result (λ read. read.chunk ≡ chunk_of read.samples.items) }
-    ensures only { (part : List Entry) → IsChunk part → StandsAt files.now reference (chunk_text part) → IfOk result (λ read. read.samples.items ≡ part) }
-    ensures bad { result ≡ Err PartFault.Bad → (part : List Entry) → IsChunk part → StandsAt files.now reference (chunk_text part) → ⊥ }
+// Returns whether each time is greater than the one before it.
+fn do_rise(samples: &[Sample]) -> bool
+    ensures sound { IsTrue result → Rises samples.now }
+    ensures complete { Rises samples.now → IsTrue result }
 {
-    let Some(data) = chunk_at(files, reference) else {
+    for i in 1..samples.len() {
+        if time_of(&samples[i]) <= time_of(&samples[i - 1]) {
+            return false;
+        }
+    }
+    true
+}
+
+// Returns whether a chunk can have these samples: 1 to 120 with times that rise.
+fn is_chunk(samples: &[Sample]) -> bool
+    ensures sound { IsTrue result → All IsFit samples.now → IsChunk samples.now }
+    ensures complete { IsChunk samples.now → IsTrue result }
+{
+    if samples.is_empty() || samples.len() > CHUNK_SAMPLES {
+        return false;
+    }
+    do_rise(samples)
+}
+
+// Decodes the data of a chunk in the XOR encoding.
+fn decode_xor(alloc: Global, data: &[u8]) -> Result<Vec<Sample>, PartFault>
+    ensures found { IfOk result (λ samples. IsChunk samples.items × (data.now ≡ xor_text samples.items)) }
+    ensures only { (part : List Entry) → IsChunk part → data.now ≡ xor_text part → IfOk result (λ samples. samples.items ≡ part) }
+    ensures bad { result ≡ Err PartFault.Bad → (part : List Entry) → IsChunk part → data.now ≡ xor_text part → ⊥ }
+{
+    let samples = decode_exact(alloc, data)?;
+    if !is_chunk(&samples) {
+        return Err(PartFault::Bad);
+    }
+    Ok(samples)
+}
+
+// Decodes the data of a chunk in this encoding.
+fn decode(alloc: Global, encoding: Encoding, data: &[u8]) -> Result<Vec<Sample>, PartFault>
+    ensures found { IfOk result (λ samples. IsChunk samples.items × (data.now ≡ data_in encoding samples.items)) }
+    ensures only { (part : List Entry) → IsChunk part → data.now ≡ data_in encoding part → IfOk result (λ samples. samples.items ≡ part) }
+    ensures bad { result ≡ Err PartFault.Bad → (part : List Entry) → IsChunk part → data.now ≡ data_in encoding part → ⊥ }
+{
+    match encoding {
+        Encoding::Raw => Ok(decode_chunk(alloc, data)?),
+        Encoding::Xor => decode_xor(alloc, data),
+    }
+}
+
+// Reads the chunk at a reference, which must be in this encoding.
+fn read_chunk(
+    alloc: Global,
+    files: &[Items<u8>],
+    reference: u64,
+    encoding: Encoding,
+) -> Result<ReadChunk, PartFault>
+    ensures found { IfOk result (λ read. IsChunk read.samples.items) }
+    ensures chunk { IfOk result (λ read. read.chunk ≡ chunk_in encoding read.samples.items) }
+    ensures only { (part : List Entry) → IsChunk part → StandsAt encoding files.now reference (data_in encoding part) →
+        IfOk result (λ read. read.samples.items ≡ part) }
+    ensures bad { result ≡ Err PartFault.Bad → (part : List Entry) → IsChunk part → StandsAt encoding files.now reference (data_in encoding part) → ⊥ }
+{
+    let Some((written, data)) = chunk_at(files, reference) else {
         return Err(PartFault::Bad);
     };
-    let samples = decode_chunk(alloc, data)?;
+    if written != encoding {
+        return Err(PartFault::Bad);
+    }
+    let samples = decode(alloc, encoding, data)?;
     let mut text = Vec::new(alloc);
     text.extend_from_slice(data)?;
     let chunk = Chunk {
@@ -90,17 +151,19 @@ pub(crate) fn read_row(
     alloc: Global,
     files: &[Items<u8>],
     metas: &[ChunkMeta],
+    encoding: Encoding,
 ) -> Result<ReadRow, PartFault>
     ensures found { IfOk result (λ row. IsColumn row.samples.items) }
-    ensures chunks { IfOk result (λ row. row.chunks.items ≡ chunks_of row.samples.items) }
-    ensures only { (samples : List Entry) → IsColumn samples → AreThere files.now metas.now (parts chunk_samples samples) →
+    ensures chunks { IfOk result (λ row. row.chunks.items ≡ chunks_in encoding row.samples.items) }
+    ensures only { (samples : List Entry) → IsColumn samples → AreThere encoding files.now metas.now (parts chunk_samples samples) →
         IfOk result (λ row. row.samples.items ≡ samples) }
-    ensures bad { result ≡ Err PartFault.Bad → (samples : List Entry) → IsColumn samples → AreThere files.now metas.now (parts chunk_samples samples) → ⊥ }
+    ensures bad { result ≡ Err PartFault.Bad → (samples : List Entry) → IsColumn samples →
+        AreThere encoding files.now metas.now (parts chunk_samples samples) → ⊥ }
 {
     let mut samples = Vec::new(alloc);
     let mut chunks = Vec::new(alloc);
     for meta in metas {
-        let read = read_chunk(alloc, files, meta.reference)?;
+        let read = read_chunk(alloc, files, meta.reference, encoding)?;
         if !may_follow(&samples, &read.samples) {
             return Err(PartFault::Bad);
         }

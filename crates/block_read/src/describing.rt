@@ -5,9 +5,8 @@ ghost use Rattle.std.specs.List.{AllByRecursion, flat_map};
 ghost use Rattle.std.specs.Io.Iter.{u64_saturate};
 ghost use Rattle.block_text.specs.Sums.{Text};
 ghost use Rattle.head_column.specs.Hours.{IsEdge, hour_start, is_in_hour};
-ghost use Rattle.block_files.specs.Files.{all_texts};
 ghost use Rattle.block_files.specs.Meta.{meta_text};
-ghost use Rattle.block_read.specs.Blocks.{IsColumn, IsWithin, chunks_of_rows};
+ghost use Rattle.block_read.specs.Blocks.{IsColumn, IsWithin, chunk_count};
 ghost use Rattle.block_read.specs.Reading.{AreOfHour, AreWithin, HasMeta, summary};
 
 use crate::fault::PartFault;
@@ -112,7 +111,7 @@ fn has_rows(span: Span, samples: &[Items<Sample>], hidden: &[Items<Run>]) -> boo
 // Counts the samples and the chunks. A count that exceeds 64 bits, which no block has, saturates.
 fn counts_of(samples: &[Items<Sample>]) -> (u64, u64)
     ensures samples { result.0 ≡ u64_saturate (length (flat_map (λ s. s) samples.now)) }
-    ensures chunks { result.1 ≡ u64_saturate (length (all_texts (chunks_of_rows samples.now))) }
+    ensures chunks { result.1 ≡ u64_saturate (chunk_count samples.now) }
 {
     let mut count = 0u64;
     let mut chunks = 0u64;
@@ -143,7 +142,7 @@ fn describe(
 ) -> Result<Vec<u8>, PartFault>
     requires whole { IsEdge hour → ⊥ }
     requires few_samples { length (flat_map (λ s. s) samples.now) < 2 ^ 64 }
-    requires few_chunks { length (all_texts (chunks_of_rows samples.now)) < 2 ^ 64 }
+    requires few_chunks { chunk_count samples.now < 2 ^ 64 }
     ensures text { IfOk result (λ text. text.items ≡ meta_text (summary ulid hour samples.now)) }
     ensures fault { result ≡ Err PartFault.Bad → ⊥ }
 {
@@ -171,7 +170,7 @@ pub(crate) fn read_meta(
     requires some { 0 < length samples.now }
     requires each { AllByRecursion IsColumn samples.now }
     requires few_samples { length (flat_map (λ s. s) samples.now) < 2 ^ 64 }
-    requires few_chunks { length (all_texts (chunks_of_rows samples.now)) < 2 ^ 64 }
+    requires few_chunks { chunk_count samples.now < 2 ^ 64 }
     ensures found { IfOk result (λ read. HasMeta bytes.now samples.now hidden.now read.0 read.1) }
     ensures only { (ulid : Text) (hour : ℤ) → HasMeta bytes.now samples.now hidden.now ulid hour → IfOk result (λ read. (read.0 ≡ ulid) × (read.1 ≡ hour)) }
     ensures bad { result ≡ Err PartFault.Bad → (ulid : Text) (hour : ℤ) → HasMeta bytes.now samples.now hidden.now ulid hour → ⊥ }

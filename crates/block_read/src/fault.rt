@@ -7,13 +7,15 @@ use head_column::ChunkFault;
 use std::alloc::{AllocError, AllocFailed};
 use std::error::Error;
 use std::fmt;
+use xor_chunk::XorFault;
 
 /// The error of reading a block: the first of these that applies, except that `Memory` can come before any.
 #[derive(Clone, Copy, Debug, PartialEq, Eq)]
 pub enum BlockFault {
     /// The index is invalid, with this fault.
     Index(ReadFault),
-    /// The chunk files are not the text of samples in chunks of 120 with the references and times in the index.
+    /// The chunk files are not the text, in one encoding that is read, of samples in chunks of 120 with the references and times in the
+    /// index.
     BadChunks,
     /// The tombstones are not the text of runs of the series in the index, with a gap between any two of a series.
     BadTombstones,
@@ -117,6 +119,20 @@ impl From<ChunkFault> for PartFault {
         match fault {
             ChunkFault::BadChunk => PartFault::Bad,
             ChunkFault::Memory => PartFault::Memory,
+        }
+    }
+}
+
+impl From<XorFault> for PartFault {
+    ghost use Rattle.std.specs.Prelude.{◌≡◌};
+    ghost use Rattle.block_read.specs.Faults.{of_xor};
+
+    ghost from_gives = { λ f e. e ≡ of_xor f };
+
+    fn from(fault: XorFault) -> PartFault {
+        match fault {
+            XorFault::Memory => PartFault::Memory,
+            _ => PartFault::Bad,
         }
     }
 }

@@ -12,8 +12,8 @@ mod rows;
 mod samples;
 
 pub use block::Block;
-pub use block_files::{BadUlid, Ulid};
+pub use block_files::{BadUlid, Encoding, Ulid};
 pub use block_index::ReadFault;
 pub use fault::BlockFault;
-pub use reading::read_block;
+pub use reading::{read_any_block, read_block};
 pub use rows::{BlockRow, BlockRows};

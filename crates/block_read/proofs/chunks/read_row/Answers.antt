@@ -11,8 +11,8 @@ nowhere = record { min_time = pos 0; max_time = pos 0; reference = 0 }
 
 pub loop-meta-init : goal.loop-meta-init
 loop-meta-init c = (
-  begun c.new-samples.result.items c.new-chunks.result.items c.new-samples.ensures.items c.new-chunks.ensures.items,
-  λ all col there. left_begun c.args.files.now c.args.metas.now c.new-samples.result.items all c.new-samples.ensures.items there,
+  begun c.args.encoding c.new-samples.result.items c.new-chunks.result.items c.new-samples.ensures.items c.new-chunks.ensures.items,
+  λ all col there. left_begun c.args.encoding c.args.files.now c.args.metas.now c.new-samples.result.items all c.new-samples.ensures.items there,
 )
 
 pub returns-in_err-read-clause-bad : goal.returns-in_err-read-clause-bad

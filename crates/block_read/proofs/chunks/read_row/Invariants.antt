@@ -7,5 +7,5 @@ use Rattle.block_read.proofs.Columns.{Left, Read}
 use Rattle.block_read.proofs.chunks.read_row.Given as goal
 
 abbrev pub invariant-loop-meta : goal.invariant-loop-meta
-invariant-loop-meta l = Read l.samples.items l.chunks.items
-    × ((all : List Sample) → IsColumn all → AreThere l.files l.metas (parts chunk_samples all) → Left l.files (drop l.meta-index l.metas) l.samples.items all)
+invariant-loop-meta l = Read l.encoding l.samples.items l.chunks.items
+    × ((all : List Sample) → IsColumn all → AreThere l.encoding l.files l.metas (parts chunk_samples all) → Left l.encoding l.files (drop l.meta-index l.metas) l.samples.items all)

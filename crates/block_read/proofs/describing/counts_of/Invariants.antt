@@ -1,9 +1,8 @@
 use Rattle.std.proofs.Common.{◌≡◌, length, take}
 use Rattle.std.specs.List.{flat_map}
 use Rattle.std.specs.Io.Iter.{u64_saturate}
-use Rattle.block_files.specs.Files.{all_texts}
-use Rattle.block_read.specs.Blocks.{chunks_of_rows}
+use Rattle.block_read.specs.Blocks.{chunk_count}
 use Rattle.block_read.proofs.describing.counts_of.Given as goal
 
 abbrev pub invariant-loop-row : goal.invariant-loop-row
-invariant-loop-row l = (l.count ≡ u64_saturate (length (flat_map (λ s. s) (take l.row-index l.samples)))) × (l.chunks ≡ u64_saturate (length (all_texts (chunks_of_rows (take l.row-index l.samples)))))
+invariant-loop-row l = (l.count ≡ u64_saturate (length (flat_map (λ s. s) (take l.row-index l.samples)))) × (l.chunks ≡ u64_saturate (chunk_count (take l.row-index l.samples)))

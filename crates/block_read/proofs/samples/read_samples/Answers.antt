@@ -6,17 +6,17 @@ use Rattle.block_read.proofs.AllRows.{all_taken, as_many, first_more, here_at, s
 use Rattle.block_read.proofs.samples.read_samples.Goals as goal
 
 pub loop-row-init : goal.loop-row-init
-loop-row-init c = (so_far_none c.args.rows.now c.new-again.result c.new-samples.result.items c.new-again.ensures.limit c.new-again.ensures.none c.new-samples.ensures.items, λ all h. c.new-samples.ensures.items)
+loop-row-init c = (so_far_none c.args.encoding c.args.rows.now c.new-again.result c.new-samples.result.items c.new-again.ensures.limit c.new-again.ensures.encoding c.new-again.ensures.none c.new-samples.ensures.items, λ all h. c.new-samples.ensures.items)
 
 pub loop-row-preserved : goal.loop-row-preserved
 loop-row-preserved c =
     let so_far = c.loop-row.invariant.0 in (
       so_far_more c.args.rows.now c.loop-row.again c.take_row.new.again c.loop-row.samples.items c.push.new.self.items c.loop-row.row-index c.row-item.result c.in_ok-read.read.items c.from_vec.result c.loop-row-test.true c.row-item.is so_far
-          c.take_row.ensures.limit c.in_ok-read.ensures.column (c.in_ok-read.ensures.written (texts (chunks_of_rows c.loop-row.samples.items)) so_far.files)
-          (sym c.as_slice.ensures ∙ c.in_ok-read.ensures.named (texts (chunks_of_rows c.loop-row.samples.items)) so_far.files) c.from_vec.ensures c.in_ok-push.ensures.items,
+          c.take_row.ensures.limit c.take_row.ensures.encoding c.in_ok-read.ensures.column (c.in_ok-read.ensures.written (texts (chunks_of_rows c.args.encoding c.loop-row.samples.items)) so_far.files)
+          (sym c.as_slice.ensures ∙ c.in_ok-read.ensures.named (texts (chunks_of_rows c.args.encoding c.loop-row.samples.items)) so_far.files) c.from_vec.ensures c.in_ok-push.ensures.items,
       λ all h.
           let first = c.loop-row.invariant.1 all h in
-          let here = here_at c.args.files.now c.args.rows.now all c.loop-row.samples.items c.loop-row.row-index c.row-item.result c.as_slice.result.now c.loop-row-test.true c.row-item.is c.as_slice.ensures first h in
+          let here = here_at c.short_chunk.ensures c.args.files.now c.args.rows.now all c.loop-row.samples.items c.loop-row.row-index c.row-item.result c.as_slice.result.now c.loop-row-test.true c.row-item.is c.as_slice.ensures first h in
           first_more all c.loop-row.samples.items c.push.new.self.items c.loop-row.row-index c.in_ok-read.read.items c.from_vec.result (omega (arith, as_many c.args.files.now c.args.rows.now all h, c.loop-row-test.true)) first
           (c.in_ok-read.ensures.only (get_or all c.loop-row.row-index []) here.column here.are_there) c.from_vec.ensures c.in_ok-push.ensures.items,
     )
@@ -24,13 +24,13 @@ loop-row-preserved c =
 pub returns-in_err-read-clause-bad : goal.returns-in_err-read-clause-bad
 returns-in_err-read-clause-bad c = λ was all h.
     let bad : c.take_row.result ≡ Err Bad = search rules in
-    let here = here_at c.args.files.now c.args.rows.now all c.loop-row.samples.items c.loop-row.row-index c.row-item.result c.as_slice.result.now c.loop-row-test.true c.row-item.is c.as_slice.ensures (c.loop-row.invariant.1 all h) h in
-    c.take_row.ensures.bad bad (texts (chunks_of_rows c.loop-row.samples.items)) c.loop-row.invariant.0.files (get_or all c.loop-row.row-index []) here.column here.are_there here.named here.few
+    let here = here_at c.short_chunk.ensures c.args.files.now c.args.rows.now all c.loop-row.samples.items c.loop-row.row-index c.row-item.result c.as_slice.result.now c.loop-row-test.true c.row-item.is c.as_slice.ensures (c.loop-row.invariant.1 all h) h in
+    c.take_row.ensures.bad bad (texts (chunks_of_rows c.args.encoding c.loop-row.samples.items)) c.loop-row.invariant.0.files (get_or all c.loop-row.row-index []) here.column here.are_there here.named here.few
 
 pub returns-then-not-are_same-clause-bad : goal.returns-then-not-are_same-clause-bad
 returns-then-not-are_same-clause-bad c = λ was all h.
     let is = all_taken c.args.files.now c.args.rows.now all c.loop-row.samples.items c.loop-row.row-index c.loop-row-test.false (c.loop-row.invariant.1 all h) h in
-    let same : c.deref.result.now ≡ c.args.files.now = c.deref.ensures.value ∙ c.in_ok-written.ensures.files ∙ c.loop-row.invariant.0.files ∙ ap files_of is ∙ sym h.files_are in
+    let same : c.deref.result.now ≡ c.args.files.now = c.deref.ensures.value ∙ c.in_ok-written.ensures.files ∙ c.loop-row.invariant.0.files ∙ ap (files_of c.args.encoding) is ∙ sym h.files_are in
     let yes : c.are_same.result ≡ true = c.are_same.ensures.complete same in
     absurd (cc (yes, c.if-not-are_same.true))
 

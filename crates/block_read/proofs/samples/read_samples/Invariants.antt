@@ -5,4 +5,4 @@ use Rattle.block_read.proofs.AllRows.{SoFar}
 use Rattle.block_read.proofs.samples.read_samples.Given as goal
 
 abbrev pub invariant-loop-row : goal.invariant-loop-row
-invariant-loop-row l = SoFar l.rows l.again l.samples.items l.row-index × ((all : List (List Sample)) → HasSamples l.files l.rows all → l.samples.items ≡ take l.row-index all)
+invariant-loop-row l = SoFar l.encoding l.rows l.again l.samples.items l.row-index × ((all : List (List Sample)) → HasSamples l.encoding l.files l.rows all → l.samples.items ≡ take l.row-index all)

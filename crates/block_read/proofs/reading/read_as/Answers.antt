@@ -11,23 +11,19 @@ use Rattle.block_read.proofs.Assembled.{hidden_of_rows, index_of}
 use Rattle.block_read.proofs.Few.{read_few}
 use Rattle.block_read.proofs.Ids.{ids_ascend, ids_count}
 use Rattle.block_read.proofs.Whole.{block_found, refused, samples_are, hidden_are, hidden_have, hidden_were, index_was, meta_were, rows_were, samples_were}
-use Rattle.block_read.proofs.reading.read_block.Goals as goal
+use Rattle.block_read.proofs.reading.read_as.Goals as goal
 
--- src/reading.rt:46:17
 pub returns-in_err-index-clause-refuses : goal.returns-in_err-index-clause-refuses
 returns-in_err-index-clause-refuses c = λ rows h.
     refused c.from_residual.result c.in_err-index.field-0.0 c.from_residual.ensures.1
-    (IfErr-at_err (λ f. f ≡ read.Memory) c.in_err-index.was (c.read_numbered_index.ensures.refuses (index_rows rows.rows) (subst (λ (t : Text). IsIndex t (index_rows rows.rows)) (sym c.as_slice.ensures) (index_of c.args.block.now rows h))))
+    (IfErr-at_err (λ f. f ≡ read.Memory) c.in_err-index.was (c.read_numbered_index.ensures.refuses (index_rows c.args.encoding rows.rows) (subst (λ (t : Text). IsIndex t (index_rows c.args.encoding rows.rows)) (sym c.as_slice.ensures) (index_of c.args.block.now rows h))))
 
--- src/reading.rt:49:32
 pub returns-in-Err-Bad-clause-refuses : goal.returns-in-Err-Bad-clause-refuses
 returns-in-Err-Bad-clause-refuses c rows h = absurd (c.in-Err-Bad.ensures.bad (ap Err c.in-Err-Bad.field-0-is) (samples_of_rows rows.rows) (samples_were c.args.block.now rows c.as_slice-2.result.now c.as_slice-3.result.now (cc) (c.as_slice-3.ensures ∙ index_was c.args.block.now rows _ _ c.as_slice.ensures c.in_ok-index.ensures.only h) h))
 
--- src/reading.rt:52:24
 pub read_hidden-requires : goal.read_hidden-requires
 read_hidden-requires c = subst (IsChain (λ a b. a < b)) (sym (c.as_slice-5.ensures ∙ c.in_ok-index.ensures.ids)) (ids_ascend c.in_ok-index.index.rows)
 
--- src/reading.rt:54:32
 pub returns-in-Err-Bad-read_hidden-clause-refuses :
     goal.returns-in-Err-Bad-read_hidden-clause-refuses
 returns-in-Err-Bad-read_hidden-clause-refuses c = λ rows h.
@@ -35,7 +31,6 @@ returns-in-Err-Bad-read_hidden-clause-refuses c = λ rows h.
     absurd (c.in-Err-Bad-read_hidden.ensures.bad (ap Err c.in-Err-Bad-read_hidden.field-0-is) (hidden_of_rows rows.rows)
     (hidden_were c.args.block.now rows c.as_slice-4.result.now c.in_ok-index.index.rows c.as_slice-5.result.now c.as_slice-4.ensures (c.as_slice-5.ensures ∙ c.in_ok-index.ensures.ids) index h))
 
--- src/reading.rt:54:32
 pub returns-in-Err-Bad-read_hidden-clause-bad_tombstones :
     goal.returns-in-Err-Bad-read_hidden-clause-bad_tombstones
 returns-in-Err-Bad-read_hidden-clause-bad_tombstones c = λ e. (
@@ -47,21 +42,17 @@ returns-in-Err-Bad-read_hidden-clause-bad_tombstones c = λ e. (
       (hidden_have c.args.block.now.tombstones c.in_ok-index.index.rows c.as_slice-4.result.now c.as_slice-5.result.now hidden c.as_slice-4.ensures (c.as_slice-5.ensures ∙ c.in_ok-index.ensures.ids) h),
 )
 
--- src/reading.rt:59:30
 pub read_meta-requires-clause-some : goal.read_meta-requires-clause-some
 read_meta-requires-clause-some c = omega (arith, c.in_ok-index.ensures.found.rows_are.some, as_many c.as_slice-2.result.now c.as_slice-3.result.now c.in-Ok.samples.items c.in-Ok.ensures.found, ap length c.as_slice-3.ensures, ap length c.deref.ensures.value)
 
--- src/reading.rt:59:30
 pub read_meta-requires-clause-few_samples : goal.read_meta-requires-clause-few_samples
 read_meta-requires-clause-few_samples c =
     (read_few c.as_slice-2.result.now c.in_ok-index.index.rows c.as_slice-3.result.now c.in-Ok.samples.items c.deref.result.now c.as_slice-3.ensures c.deref.ensures.value c.in-Ok.ensures.found (c.few_chunks.ensures c.in_ok-index.index.rows c.in_ok-index.ensures.found.fits)).few_samples
 
--- src/reading.rt:59:30
 pub read_meta-requires-clause-few_chunks : goal.read_meta-requires-clause-few_chunks
 read_meta-requires-clause-few_chunks c =
     (read_few c.as_slice-2.result.now c.in_ok-index.index.rows c.as_slice-3.result.now c.in-Ok.samples.items c.deref.result.now c.as_slice-3.ensures c.deref.ensures.value c.in-Ok.ensures.found (c.few_chunks.ensures c.in_ok-index.index.rows c.in_ok-index.ensures.found.fits)).few_chunks
 
--- src/reading.rt:61:32
 pub returns-in-Err-Bad-read_meta-clause-refuses : goal.returns-in-Err-Bad-read_meta-clause-refuses
 returns-in-Err-Bad-read_meta-clause-refuses c = λ rows h.
     let index = index_was c.args.block.now rows c.as_slice.result.now c.in_ok-index.index.rows c.as_slice.ensures c.in_ok-index.ensures.only h in
@@ -70,7 +61,6 @@ returns-in-Err-Bad-read_meta-clause-refuses c = λ rows h.
     absurd (c.in-Err-Bad-read_meta.ensures.bad (ap Err c.in-Err-Bad-read_meta.field-0-is) rows.ulid rows.hour
     (meta_were c.args.block.now rows c.as_slice-6.result.now c.deref.result.now c.deref-2.result.now c.as_slice-6.ensures (c.deref.ensures.value ∙ samples) (c.deref-2.ensures.value ∙ hidden) h))
 
--- src/reading.rt:61:32
 pub returns-in-Err-Bad-read_meta-clause-bad_meta :
     goal.returns-in-Err-Bad-read_meta-clause-bad_meta
 returns-in-Err-Bad-read_meta-clause-bad_meta c = λ e. (
@@ -88,15 +78,12 @@ returns-in-Err-Bad-read_meta-clause-bad_meta c = λ e. (
       (meta_were c.args.block.now rows c.as_slice-6.result.now c.deref.result.now c.deref-2.result.now c.as_slice-6.ensures (c.deref.ensures.value ∙ samples) (c.deref-2.ensures.value ∙ hidden) h),
 )
 
--- src/reading.rt:64:20
 pub join_rows-requires-clause-samples : goal.join_rows-requires-clause-samples
 join_rows-requires-clause-samples c = as_many _ _ _ c.in-Ok.ensures.found ∙ cc
 
--- src/reading.rt:64:20
 pub join_rows-requires-clause-hidden : goal.join_rows-requires-clause-hidden
 join_rows-requires-clause-hidden c = c.in-Ok-read_hidden.ensures.found.one_each ∙ ap length (c.as_slice-5.ensures ∙ c.in_ok-index.ensures.ids) ∙ ids_count c.in_ok-index.index.rows ∙ cc
 
--- src/reading.rt:29:1
 pub returns-clause-found : goal.returns-clause-found
 returns-clause-found c =
     block_found c.args.block.now c.in_ok-index.index.rows c.in-Ok.samples.items c.in-Ok-read_hidden.hidden.items c.as_slice-6.result.now c.deref.result.now c.deref-2.result.now
@@ -105,12 +92,11 @@ returns-clause-found c =
     c.as_slice-6.ensures c.deref.ensures.value c.deref-2.ensures.value c.in-Ok-read_meta.ensures.found
     (ap (map (λ (r : BlockRow). r.labels)) c.from_vec.ensures ∙ c.in-Ok-join_rows.ensures.labels ∙ cc) (ap samples_of_rows c.from_vec.ensures ∙ c.in-Ok-join_rows.ensures.samples) (ap hidden_of_rows c.from_vec.ensures ∙ c.in-Ok-join_rows.ensures.hidden)
 
--- src/reading.rt:29:1
 pub returns-clause-only : goal.returns-clause-only
 returns-clause-only c = λ rows h.
     let index = index_was c.args.block.now rows c.as_slice.result.now c.in_ok-index.index.rows c.as_slice.ensures c.in_ok-index.ensures.only h in
     let samples = c.in-Ok.ensures.only (samples_of_rows rows.rows) (samples_were c.args.block.now rows c.as_slice-2.result.now c.as_slice-3.result.now (cc) (c.as_slice-3.ensures ∙ index) h) in
     let hidden = c.in-Ok-read_hidden.ensures.only (hidden_of_rows rows.rows) (hidden_were c.args.block.now rows c.as_slice-4.result.now c.in_ok-index.index.rows c.as_slice-5.result.now c.as_slice-4.ensures (c.as_slice-5.ensures ∙ c.in_ok-index.ensures.ids) index h) in
     let meta = c.in-Ok-read_meta.ensures.only rows.ulid rows.hour (meta_were c.args.block.now rows c.as_slice-6.result.now c.deref.result.now c.deref-2.result.now c.as_slice-6.ensures (c.deref.ensures.value ∙ samples) (c.deref-2.ensures.value ∙ hidden) h) in
-    rows_were c.args.block.now rows (record { ulid = c.in-Ok-read_meta.meta.0; hour = c.in-Ok-read_meta.meta.1; rows = c.from_vec.result }) c.in_ok-index.index.rows index meta.0 meta.1
+    rows_were c.args.encoding c.args.block.now rows (record { ulid = c.in-Ok-read_meta.meta.0; hour = c.in-Ok-read_meta.meta.1; rows = c.from_vec.result }) c.in_ok-index.index.rows index meta.0 meta.1
     (ap (map (λ (r : BlockRow). r.labels)) c.from_vec.ensures ∙ c.in-Ok-join_rows.ensures.labels ∙ cc) (ap samples_of_rows c.from_vec.ensures ∙ c.in-Ok-join_rows.ensures.samples ∙ samples) (ap hidden_of_rows c.from_vec.ensures ∙ c.in-Ok-join_rows.ensures.hidden ∙ hidden)
