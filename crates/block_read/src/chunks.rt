@@ -15,7 +15,7 @@ use block_index::ChunkMeta;
 use head_column::{CHUNK_SAMPLES, Chunk, Sample, decode_chunk};
 use hw_bytes::Items;
 use std::alloc::Global;
-use xor_chunk::decode_exact;
+use xor_chunk::{decode_exact, one_chunk};
 
 // A chunk with its samples.
 #[derive(Debug, Drop)]
@@ -85,6 +85,8 @@ fn decode_xor(alloc: Global, data: &[u8]) -> Result<Vec<Sample>, PartFault>
     ensures bad { result ≡ Err PartFault.Bad → (part : List Entry) → IsChunk part → data.now ≡ xor_text part → ⊥ }
 {
     let samples = decode_exact(alloc, data)?;
+    // for the proof: a chunk stands for one list of samples
+    one_chunk();
     if !is_chunk(&samples) {
         return Err(PartFault::Bad);
     }

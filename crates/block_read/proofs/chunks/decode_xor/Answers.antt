@@ -17,3 +17,8 @@ not_memory {T = T} result fault p bad m =
 pub returns-in_err-samples-clause-bad : goal.returns-in_err-samples-clause-bad
 returns-in_err-samples-clause-bad c = λ was part h e.
     c.in_err-samples.ensures.bad (λ m. not_memory c.from_residual.result c.in_err-samples.field-0.0 c.from_residual.ensures.1 was m) part h.fit (record { few = omega (arith, h.few); is = e })
+
+pub returns-clause-only : goal.returns-clause-only
+returns-clause-only c = λ part h e.
+    let chunk = c.in_ok-samples.ensures.found in
+    c.one_chunk.ensures c.in_ok-samples.samples.items part chunk.0.few (omega (arith, h.few)) chunk.1 h.fit (sym chunk.0.is ∙ e)
