@@ -12,9 +12,13 @@ matched (Err e) P S Q h f = tt
 pub at_ok : {X E : Type 0} {r : Result X E} {x : X} → r ≡ Ok x → (S : X → Type 0) → IfOk r S → S x
 at_ok e S h = subst (λ q. IfOk q S) e h
 
+pub if_ok : {X E : Type 0} (r : Result X E) {Q : Type 0} → Q → IfOk r (λ _. Q)
+if_ok (Ok x) q = q
+if_ok (Err e) q = tt
+
 module _ {A B E : Type 0} (f : A → B) (Q : A → Type 0) where
   abbrev Answers : A → Result B E → Type 0
-  Answers a r = IfOk r (λ b. b ≡ f a) × Q a
+  Answers a r = IfOk r (λ b. b ≡ f a) × IfOk r (λ _. Q a)
 
   pub gathered : (xs : List A) (rs : List (Result B E)) (ys : List B) → AllZip Answers xs rs → rs ≡ map Ok ys → ys ≡ map f xs
   gathered [] [] [] h e = refl
@@ -28,8 +32,10 @@ module _ {A B E : Type 0} (f : A → B) (Q : A → Type 0) where
       let rest : rs ≡ map Ok ys = cc in
       ap (λ (b : B). b ∷ ys) (sym first ∙ h.0.0) ∙ ap (λ (bs : List B). f x ∷ bs) (gathered xs rs ys h.1 rest)
 
-  pub all_held : (xs : List A) (rs : List (Result B E)) → AllZip Answers xs rs → All Q xs
-  all_held [] [] h = All-nil Q
-  all_held [] (r ∷ rs) h = absurd h
-  all_held (x ∷ xs) [] h = absurd h
-  all_held (x ∷ xs) (r ∷ rs) h = All-cons Q x xs h.0.1 (all_held xs rs h.1)
+  pub all_held : (xs : List A) (rs : List (Result B E)) (ys : List B) → AllZip Answers xs rs → rs ≡ map Ok ys → All Q xs
+  all_held [] [] ys h e = All-nil Q
+  all_held [] (r ∷ rs) ys h e = absurd h
+  all_held (x ∷ xs) [] ys h e = absurd h
+  all_held (x ∷ xs) (r ∷ rs) [] h e = absurd cc
+  all_held (x ∷ xs) (Err fault ∷ rs) (y ∷ ys) h e = absurd cc
+  all_held (x ∷ xs) (Ok z ∷ rs) (y ∷ ys) h e = (let rest : rs ≡ map Ok ys = cc in All-cons Q x xs h.0.1 (all_held xs rs ys h.1 rest))

@@ -1,4 +1,5 @@
 pub mod Clips
+pub mod Encoded
 pub mod Gathered
 pub mod Orders
 pub mod Picked

@@ -15,7 +15,7 @@ use Rattle.wal_record.proofs.Comparing.{labels_equal, labels_total}
 use Rattle.wal_record.proofs.Equality.{labels_same}
 use Rattle.head_column.specs.declared.items.Run.{Run}
 use Rattle.head_column.specs.declared.items.Sample.{Sample}
-use Rattle.head_column.specs.Chunks.{IsFit, chunks_of}
+use Rattle.head_column.specs.Chunks.{IsFit}
 use Rattle.head_column.specs.Histories.{History, no_history}
 use Rattle.head_column.specs.Hours.{is_in_hour}
 use Rattle.head_column.specs.Samples.{Rises}
@@ -25,8 +25,10 @@ use Rattle.head_core.specs.Heads.{history_at}
 use Rattle.index_parts.specs.Rows.{IsChain}
 use Rattle.index_parts.specs.Sets.{ascending}
 use Rattle.index_parts.proofs.Ranks.{Has, IsAscending, ascending-is, ascending-of}
+use Rattle.block_files.specs.declared.encoding.Encoding.{Encoding}
+use Rattle.block_files.specs.declared.encoding.Encoding.TheVariants.{Raw}
 use Rattle.block_read.specs.declared.rows.BlockRow.{BlockRow}
-use Rattle.block_read.specs.Blocks.{IsRowOf}
+use Rattle.block_read.specs.Blocks.{IsRowOf, chunks_in}
 use Rattle.hour_rows.specs.declared.rows.CutRow.{CutRow}
 use Rattle.hour_rows.specs.Clipping.{samples_in, runs_in}
 use Rattle.hour_rows.specs.Chunked.{IsHistory, cut_row, if_chunks, in_chunks, row_at}
@@ -84,18 +86,18 @@ filter_map_map : {A B : Type 0} (g : A → Option B) (xs : List A) → filter_ma
 filter_map_map g [] = refl
 filter_map_map {A} {B} g (x ∷ xs) = ap (λ (bs : List B). cons_option (g x) bs) (filter_map_map g xs)
 
-abbrev kept_of : ℤ → Series → Option CutRow
-kept_of k s = if_chunks (cut_row k s)
+abbrev kept_of : Encoding → ℤ → Series → Option CutRow
+kept_of enc k s = if_chunks (cut_row enc k s)
 
 -- the rows that are kept, slot by slot
-pub kept_by_slot : (k : ℤ) (c : Content) → length c.histories ≡ length c.table.series
-    → filter_map (λ (o : Option CutRow). o) (map (row_at k c) (range_with_len 0 (length c.table.series))) ≡ filter_map (kept_of k) (zip c.table.series c.histories)
-kept_by_slot k c each =
-    let one : map (row_at k c) (range_with_len 0 (length c.table.series)) ≡ map (kept_of k) (zip c.table.series c.histories) =
-    by_slot (row_at k c) (kept_of k) 0 c.table.series c.histories each (λ i lt.
+kept_by_slot : (enc : Encoding) (k : ℤ) (c : Content) → length c.histories ≡ length c.table.series
+    → filter_map (λ (o : Option CutRow). o) (map (row_at enc k c) (range_with_len 0 (length c.table.series))) ≡ filter_map (kept_of enc k) (zip c.table.series c.histories)
+kept_by_slot enc k c each =
+    let one : map (row_at enc k c) (range_with_len 0 (length c.table.series)) ≡ map (kept_of enc k) (zip c.table.series c.histories) =
+    by_slot (row_at enc k c) (kept_of enc k) 0 c.table.series c.histories each (λ i lt.
     let here : 0 + i ≡ i = omega arith in
-    ap (row_at k c) here ∙ ap (λ (h : History). kept_of k (get_or c.table.series i [], h)) (unwrap_or-slice_get c.histories i no_history)) in
-    ap (filter_map (λ (o : Option CutRow). o)) one ∙ filter_map_map (kept_of k) (zip c.table.series c.histories)
+    ap (row_at enc k c) here ∙ ap (λ (h : History). kept_of enc k (get_or c.table.series i [], h)) (unwrap_or-slice_get c.histories i no_history)) in
+    ap (filter_map (λ (o : Option CutRow). o)) one ∙ filter_map_map (kept_of enc k) (zip c.table.series c.histories)
 
 -- ---- the series are distinct
 
@@ -127,41 +129,49 @@ apart (l ∷ ls) (y ∷ hs) h = (differs l y ls hs h.0, apart ls hs h.1)
 not_zero : (n : ℕ) → 0 < n → (n == 0) ≡ false
 not_zero n h = ne_eqb n 0 (λ e. omega arith)
 
-one_by : (row : BlockRow) (more : List BlockRow) (a b : Bool) → a ≡ false → b ≡ false → map in_chunks (cond (not a) (row ∷ more) more) ≡ cons_option (cond b None (Some (in_chunks row))) (map in_chunks more)
-one_by row more true b e f = absurd cc
-one_by row more false true e f = absurd cc
-one_by row more false false e f = refl
+one_by : (enc : Encoding) (row : BlockRow) (more : List BlockRow) (a b : Bool) → a ≡ false → b ≡ false → map (in_chunks enc) (cond (not a) (row ∷ more) more) ≡ cons_option (cond b None (Some (in_chunks enc row))) (map (in_chunks enc) more)
+one_by enc row more true b e f = absurd cc
+one_by enc row more false true e f = absurd cc
+one_by enc row more false false e f = refl
 
-one_row : (l : Labels) (xs : List Sample) (hidden : List Run) (more : List BlockRow)
-    → map in_chunks (cond (has_samples (record { labels = l; samples = xs; hidden = hidden })) (record { labels = l; samples = xs; hidden = hidden } ∷ more) more)
-    ≡ cons_option (if_chunks (in_chunks (record { labels = l; samples = xs; hidden = hidden }))) (map in_chunks more)
-one_row l [] hidden more = refl
-one_row l (x ∷ xs) hidden more =
-    one_by (record { labels = l; samples = x ∷ xs; hidden = hidden }) more (length (x ∷ xs) == 0) (length (chunks_of (x ∷ xs)) == 0) (not_zero (length (x ∷ xs)) (omega arith)) (not_zero (length (chunks_of (x ∷ xs))) (omega arith))
+one_row : (enc : Encoding) (l : Labels) (xs : List Sample) (hidden : List Run) (more : List BlockRow)
+    → map (in_chunks enc) (cond (has_samples (record { labels = l; samples = xs; hidden = hidden })) (record { labels = l; samples = xs; hidden = hidden } ∷ more) more)
+    ≡ cons_option (if_chunks (in_chunks enc (record { labels = l; samples = xs; hidden = hidden }))) (map (in_chunks enc) more)
+one_row enc l [] hidden more = refl
+one_row enc l (x ∷ xs) hidden more =
+    one_by enc (record { labels = l; samples = x ∷ xs; hidden = hidden }) more (length (x ∷ xs) == 0) (length (chunks_in enc (x ∷ xs)) == 0) (not_zero (length (x ∷ xs)) (omega arith)) (not_zero (length (chunks_in enc (x ∷ xs))) (omega arith))
 
-chunked : (k : ℤ) (ss : List Series) → map in_chunks (filter has_samples (map (row_of k) ss)) ≡ filter_map (kept_of k) ss
-chunked k [] = refl
-chunked k (s ∷ ss) =
-    one_row s.0 (samples_in k s.1.samples) (runs_in k s.1.hidden) (filter has_samples (map (row_of k) ss)) ∙ ap (λ (rs : List CutRow). cons_option (kept_of k s) rs) (chunked k ss)
+chunked : (enc : Encoding) (k : ℤ) (ss : List Series) → map (in_chunks enc) (filter has_samples (map (row_of k) ss)) ≡ filter_map (kept_of enc k) ss
+chunked enc k [] = refl
+chunked enc k (s ∷ ss) =
+    one_row enc s.0 (samples_in k s.1.samples) (runs_in k s.1.hidden) (filter has_samples (map (row_of k) ss)) ∙ ap (λ (rs : List CutRow). cons_option (kept_of enc k s) rs) (chunked enc k ss)
 
-kept_label : (k : ℤ) (s : Series) (r : CutRow) → kept_of k s ≡ Some r → r.labels ≡ s.0
-kept_label k s r e = by (length (cut_row k s).chunks == 0) e where
-  by : (b : Bool) → cond b None (Some (cut_row k s)) ≡ Some r → r.labels ≡ s.0
+kept_label : (enc : Encoding) (k : ℤ) (s : Series) (r : CutRow) → kept_of enc k s ≡ Some r → r.labels ≡ s.0
+kept_label enc k s r e = by (length (cut_row enc k s).chunks == 0) e where
+  by : (b : Bool) → cond b None (Some (cut_row enc k s)) ≡ Some r → r.labels ≡ s.0
   by true f = absurd cc
-  by false f = let is : cut_row k s ≡ r = cc in ap (λ (q : CutRow). q.labels) (sym is)
+  by false f = let is : cut_row enc k s ≡ r = cc in ap (λ (q : CutRow). q.labels) (sym is)
 
 -- The rows that the code keeps and sorts are the rows of the hour.
-pub sorted_rows : (k : ℤ) (c : Content) (rows : List CutRow) → AreDistinct same_labels c.table.series → IsPermutation (filter_map (kept_of k) (zip c.table.series c.histories)) rows
-    → IsSorted (λ (a b : CutRow). compare_labels a.labels b.labels) rows → rows ≡ map in_chunks (rows_of k c)
+sorted_rows : (enc : Encoding) (k : ℤ) (c : Content) (rows : List CutRow) → AreDistinct same_labels c.table.series → IsPermutation (filter_map (kept_of enc k) (zip c.table.series c.histories)) rows
+    → IsSorted (λ (a b : CutRow). compare_labels a.labels b.labels) rows → rows ≡ map (in_chunks enc) (rows_of k c)
 unfolding rows_of
-sorted_rows k c rows distinct moved sorted =
-    sorted_is (λ (s : Series). s.0) (λ (r : CutRow). r.labels) compare_labels labels_total (kept_of k) (kept_label k) (zip c.table.series c.histories) rows
+sorted_rows enc k c rows distinct moved sorted =
+    sorted_is (λ (s : Series). s.0) (λ (r : CutRow). r.labels) compare_labels labels_total (kept_of enc k) (kept_label enc k) (zip c.table.series c.histories) rows
     (apart c.table.series c.histories distinct) moved sorted
-    ∙ sym (chunked k (ascending series_cmp (zip c.table.series c.histories)))
+    ∙ sym (chunked enc k (ascending series_cmp (zip c.table.series c.histories)))
+
+-- so they are, if the code looked for a row at each slot
+pub picked_rows : (enc : Encoding) (k : ℤ) (c : Content) (n : ℕ) (each : List (Option CutRow)) (kept rows : List CutRow) → n ≡ length c.table.series → length c.histories ≡ length c.table.series → AreDistinct same_labels c.table.series
+    → each ≡ map (row_at enc k c) (range_with_len 0 n) → kept ≡ filter_map (λ (o : Option CutRow). o) each → IsPermutation kept rows → IsSorted (λ (a b : CutRow). compare_labels a.labels b.labels) rows → rows ≡ map (in_chunks enc) (rows_of k c)
+picked_rows enc k c n each kept rows count one_each distinct made those moved sorted =
+    let all : kept ≡ filter_map (kept_of enc k) (zip c.table.series c.histories) =
+    those ∙ ap (filter_map (λ (o : Option CutRow). o)) (made ∙ ap (λ (m : ℕ). map (row_at enc k c) (range_with_len 0 m)) count) ∙ kept_by_slot enc k c one_each in
+    sorted_rows enc k c rows distinct (subst (λ (rs : List CutRow). IsPermutation rs rows) all moved) sorted
 
 -- ---- what each of them is
 
-chain_of : (bs : List BlockRow) → IsAscending (λ (a b : CutRow). compare_labels a.labels b.labels) (map in_chunks bs) → IsChain (λ (a b : BlockRow). compare_labels a.labels b.labels ≡ Less) bs
+chain_of : (bs : List BlockRow) → IsAscending (λ (a b : CutRow). compare_labels a.labels b.labels) (map (in_chunks Raw) bs) → IsChain (λ (a b : BlockRow). compare_labels a.labels b.labels ≡ Less) bs
 chain_of [] h = tt
 chain_of (b ∷ []) h = tt
 chain_of (b ∷ d ∷ more) h = (h.0.0, chain_of (d ∷ more) h.1)
@@ -171,8 +181,8 @@ unfolding rows_of
 rows_ascend k c =
     let zs = zip c.table.series c.histories in
     let up = ascending-is series_cmp (by_key_order (λ (s : Series). s.0) compare_labels labels_total) zs in
-    let kept = kept_ascends (λ (s : Series). s.0) (λ (r : CutRow). r.labels) compare_labels labels_total (kept_of k) (kept_label k) (ascending series_cmp zs) up in
-    chain_of (rows_of k c) (subst (IsAscending (λ (a b : CutRow). compare_labels a.labels b.labels)) (sym (chunked k (ascending series_cmp zs))) kept)
+    let kept = kept_ascends (λ (s : Series). s.0) (λ (r : CutRow). r.labels) compare_labels labels_total (kept_of Raw k) (kept_label Raw k) (ascending series_cmp zs) up in
+    chain_of (rows_of k c) (subst (IsAscending (λ (a b : CutRow). compare_labels a.labels b.labels)) (sym (chunked Raw k (ascending series_cmp zs))) kept)
 
 abbrev IsHeld : Series → Type 0
 IsHeld s = IsLabelSet s.0 × IsHistory s.1

@@ -1,6 +1,7 @@
 //! The rows of an hour of a head: a series with an accepted sample in the hour, its samples and its hidden runs there.
 #![tactic(auto)]
 
+mod chunks;
 mod rows;
 
 pub use rows::{CutRow, end_of, first_of, last_of, rows_in};

@@ -5,14 +5,19 @@ ghost use Rattle.std.specs.List.{filter_map, range_with_len};
 ghost use Rattle.std.specs.List.Sorted.{IsPermutation, IsSorted};
 ghost use Rattle.std.specs.declared.cmp.Ordering.TheVariants.{Less};
 ghost use Rattle.wal_record.specs.Labels.{compare_labels};
+ghost use Rattle.head_column.specs.Chunks.{IsFit};
 ghost use Rattle.head_column.specs.Hours.{IsEdge, hour_start};
+ghost use Rattle.head_column.specs.Samples.{Rises};
 ghost use Rattle.head_core.specs.Heads.{history_at};
-ghost use Rattle.hour_rows.specs.Clipping.{clip, runs_in};
+ghost use Rattle.hour_rows.specs.Clipping.{clip, runs_in, samples_in};
 ghost use Rattle.hour_rows.specs.Chunked.{IsHistory, in_chunks, row_at};
 ghost use Rattle.hour_rows.specs.Rows.{rows_of};
 ghost use Rattle.index_parts.specs.Rows.{IsChain};
-ghost use Rattle.block_read.specs.Blocks.{IsRowOf, hour_last};
+ghost use Rattle.block_files.specs.declared.encoding.Encoding.TheVariants.{Xor};
+ghost use Rattle.block_read.specs.Blocks.{IsRowOf, chunks_in, hour_last};
 
+use crate::chunks::{all_fit, between, xor_chunks_of};
+use block_files::Encoding;
 use head_column::{Chunk, Hour, Run};
 use head_core::Head;
 use head_series::Slot;
@@ -112,22 +117,70 @@ fn clip_runs(alloc: Global, runs: &[Run], hour: Hour) -> Result<Vec<Run>, AllocE
     Ok(kept)
 }
 
-// Returns the row of the series in a slot, or `None` if it has no sample in the hour, which is no edge.
-fn row_of(alloc: Global, head: &Head, slot: Slot, hour: Hour) -> Result<Option<CutRow>, AllocError>
+// Returns the XOR chunks of the series in a slot in the hour, which is no edge.
+fn xor_chunks_in(
+    alloc: Global,
+    head: &Head,
+    slot: Slot,
+    hour: Hour,
+) -> Result<Vec<Chunk>, AllocError>
     requires sound { head.now.failed ≡ false }
     requires slot { slot < length head.now.content.table.series }
     requires whole { IsEdge hour → ⊥ }
-    ensures row { IfOk result (λ row. row ≡ row_at hour head.now.content slot) }
-    ensures held { IsHistory (history_at head.now.content slot) }
+    ensures chunks { IfOk result (λ chunks. chunks.items ≡ chunks_in Xor (samples_in hour (history_at head.now.content slot).samples)) }
+    ensures rises { IfOk result (λ _. Rises (history_at head.now.content slot).samples) }
+    ensures fit { IfOk result (λ _. All IsFit (history_at head.now.content slot).samples) }
 {
-    let chunks = head.chunks_in(slot, hour)?;
+    let samples = head.samples(slot)?;
+    // for the proof: the numbers of the samples have 64 bits
+    all_fit(&samples);
+    xor_chunks_of(alloc, between(&samples, first_of(hour), end_of(hour)))
+}
+
+// Returns the chunks of the series in a slot in the hour, which is no edge.
+fn chunks_of(
+    alloc: Global,
+    head: &Head,
+    slot: Slot,
+    hour: Hour,
+    encoding: Encoding,
+) -> Result<Vec<Chunk>, AllocError>
+    requires sound { head.now.failed ≡ false }
+    requires slot { slot < length head.now.content.table.series }
+    requires whole { IsEdge hour → ⊥ }
+    ensures chunks { IfOk result (λ chunks. chunks.items ≡ chunks_in encoding (samples_in hour (history_at head.now.content slot).samples)) }
+    ensures rises { IfOk result (λ _. Rises (history_at head.now.content slot).samples) }
+    ensures fit { IfOk result (λ _. All IsFit (history_at head.now.content slot).samples) }
+{
+    match encoding {
+        Encoding::Raw => head.chunks_in(slot, hour),
+        Encoding::Xor => xor_chunks_in(alloc, head, slot, hour),
+    }
+}
+
+// Returns the row of the series in a slot, or `None` if it has no sample in the hour, which is no edge.
+fn row_of(
+    alloc: Global,
+    head: &Head,
+    slot: Slot,
+    hour: Hour,
+    encoding: Encoding,
+) -> Result<Option<CutRow>, AllocError>
+    requires sound { head.now.failed ≡ false }
+    requires slot { slot < length head.now.content.table.series }
+    requires whole { IsEdge hour → ⊥ }
+    ensures row { IfOk result (λ row. row ≡ row_at encoding hour head.now.content slot) }
+    ensures held { IfOk result (λ _. IsHistory (history_at head.now.content slot)) }
+{
+    let chunks = chunks_of(alloc, head, slot, hour, encoding)?;
+    let hidden = head.hidden(slot);
     if chunks.is_empty() {
         return Ok(None);
     }
     Ok(Some(CutRow {
         labels: head.labels(slot)?,
         chunks: Items::from_vec(chunks),
-        hidden: Items::from_vec(clip_runs(alloc, head.hidden(slot), hour)?),
+        hidden: Items::from_vec(clip_runs(alloc, hidden, hour)?),
     }))
 }
 
@@ -137,12 +190,13 @@ fn each_row(
     alloc: Global,
     head: &Head,
     hour: Hour,
+    encoding: Encoding,
     series: u32,
 ) -> Result<Vec<Option<CutRow>>, AllocError>
     requires sound { head.now.failed ≡ false }
     requires whole { IsEdge hour → ⊥ }
     requires series { series ≡ length head.now.content.table.series }
-    ensures rows { IfOk result (λ rows. rows.items ≡ map (row_at hour head.now.content) (range_with_len 0 series)) }
+    ensures rows { IfOk result (λ rows. rows.items ≡ map (row_at encoding hour head.now.content) (range_with_len 0 series)) }
     ensures held { IfOk result (λ _. All (λ slot. IsHistory (history_at head.now.content slot)) (range_with_len 0 series)) }
 {
     (0..series)
@@ -152,9 +206,9 @@ fn each_row(
                 requires sound { head.now.failed ≡ false }
                 requires slot { number < length head.now.content.table.series }
                 requires whole { IsEdge hour → ⊥ }
-                ensures row { IfOk result (λ row. row ≡ row_at hour head.entry.now.content number) }
-                ensures held { IsHistory (history_at head.entry.now.content number) }
-            { row_of(alloc, head, Slot::new(number), hour) },
+                ensures row { IfOk result (λ row. row ≡ row_at encoding hour head.entry.now.content number) }
+                ensures held { IfOk result (λ _. IsHistory (history_at head.entry.now.content number)) }
+            { row_of(alloc, head, Slot::new(number), hour, encoding) },
         )
         .collect::<Result<Vec<Option<CutRow>>, AllocError>>(rt, alloc)?
 }
@@ -174,22 +228,26 @@ fn sort_rows(rows: &mut Vec<CutRow>) -> Result<(), AllocError>
     rows.sort_by(|a, b| a.labels.compare(&b.labels))
 }
 
-/// Returns the rows of an hour that is no edge: one for each series with an accepted sample in the hour, in the order of label sets. The
-/// head must not have failed. Works in as many threads as `rt` has processors.
+/// Returns the rows of an hour that is no edge: one for each series with an accepted sample in the hour, in the order of label sets,
+/// with its samples in chunks of this encoding. The head must not have failed. Works in as many threads as `rt` has processors.
 pub fn rows_in(
     rt: &(impl Threads + Sync),
     alloc: Global,
     head: &Head,
     hour: Hour,
+    encoding: Encoding,
 ) -> Result<Vec<CutRow>, AllocError>
     requires sound { head.now.failed ≡ false }
     requires whole { IsEdge hour → ⊥ }
-    ensures rows { IfOk result (λ rows. rows.items ≡ map in_chunks (rows_of hour head.now.content)) }
+    ensures rows { IfOk result (λ rows. rows.items ≡ map (in_chunks encoding) (rows_of hour head.now.content)) }
     ensures each { IfOk result (λ _. All (IsRowOf hour) (rows_of hour head.now.content)) }
     ensures ascending { IfOk result (λ _. IsChain (λ a c. compare_labels a.labels c.labels ≡ Less) (rows_of hour head.now.content)) }
 {
     let series = head.series();
-    let mut rows = keep_rows(alloc, each_row(rt, alloc, head, hour, series as u32)?)?;
+    let mut rows = keep_rows(
+        alloc,
+        each_row(rt, alloc, head, hour, encoding, series as u32)?,
+    )?;
     sort_rows(&mut rows)?;
     Ok(rows)
 }

@@ -21,13 +21,13 @@ returns-clause-rows g c =
     let start = ap (λ it. it.start) c.map.ensures.base ∙ ends.0 in
     let end = ap (λ it. it.end) c.map.ensures.base ∙ ends.1 in
     let whole : c.args.series - 0 ≡ c.args.series = omega arith in
-    let row = row_at c.args.hour c.args.head.now.content in
+    let row = row_at c.args.encoding c.args.hour c.args.head.now.content in
     let all : IfOk c.collect.result (λ r. IfOk r (λ rows. rows.items ≡ map row (range_with_len 0 c.args.series))) =
     IfOk-then c.collect.result _ _ c.collect.ensures (λ v h.
     let those = h.1.1 ∙ (λ i. nat_range (start i) (end i)) ∙ ap (range_with_len 0) whole in
     matched v _ _ _ h.2 (λ rows made.
-    made.2 ∙ gathered (row_at c.map.result.f.2.now c.map.result.f.1.now.content) (λ slot. IsHistory (history_at c.map.result.f.1.now.content slot)) h.1.0 h.0 made.0 h.1.2 made.1
-    ∙ ap (λ f. map (row_at f.2.now f.1.now.content) h.1.0) c.map.ensures.f ∙ ap (map row) those)) in
+    made.2 ∙ gathered (row_at c.map.result.f.3.now c.map.result.f.2.now c.map.result.f.1.now.content) (λ slot. IsHistory (history_at c.map.result.f.1.now.content slot)) h.1.0 h.0 made.0 h.1.2 made.1
+    ∙ ap (λ f. map (row_at f.3.now f.2.now f.1.now.content) h.1.0) c.map.ensures.f ∙ ap (map row) those)) in
     at_ok c.in_ok-collect.was _ all
 
 pub returns-clause-held : goal.returns-clause-held
@@ -40,6 +40,7 @@ returns-clause-held g c =
     let all : IfOk c.collect.result (λ r. IfOk r (λ _. All held (range_with_len 0 c.args.series))) =
     IfOk-then c.collect.result _ _ c.collect.ensures (λ v h.
     let those = h.1.1 ∙ (λ i. nat_range (start i) (end i)) ∙ ap (range_with_len 0) whole in
-    let each = all_held (row_at c.map.result.f.2.now c.map.result.f.1.now.content) (λ slot. IsHistory (history_at c.map.result.f.1.now.content slot)) h.1.0 h.0 h.1.2 in
-    matched v _ _ _ h.2 (λ rows made. subst (All held) those (subst (λ f. All (λ slot. IsHistory (history_at f.1.now.content slot)) h.1.0) c.map.ensures.f each))) in
+    matched v _ _ _ h.2 (λ rows made.
+    let each = all_held (row_at c.map.result.f.3.now c.map.result.f.2.now c.map.result.f.1.now.content) (λ slot. IsHistory (history_at c.map.result.f.1.now.content slot)) h.1.0 h.0 made.0 h.1.2 made.1 in
+    subst (All held) those (subst (λ f. All (λ slot. IsHistory (history_at f.1.now.content slot)) h.1.0) c.map.ensures.f each))) in
     at_ok c.in_ok-collect.was _ all
