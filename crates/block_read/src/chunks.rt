@@ -114,6 +114,7 @@ fn read_chunk(
 ) -> Result<ReadChunk, PartFault>
     ensures found { IfOk result (λ read. IsChunk read.samples.items) }
     ensures chunk { IfOk result (λ read. read.chunk ≡ chunk_in encoding read.samples.items) }
+    ensures there { IfOk result (λ read. StandsAt encoding files.now reference (data_in encoding read.samples.items)) }
     ensures only { (part : List Entry) → IsChunk part → StandsAt encoding files.now reference (data_in encoding part) →
         IfOk result (λ read. read.samples.items ≡ part) }
     ensures bad { result ≡ Err PartFault.Bad → (part : List Entry) → IsChunk part → StandsAt encoding files.now reference (data_in encoding part) → ⊥ }

@@ -1,5 +1,8 @@
-use Rattle.std.proofs.Common.{rules, ◌≡◌, Err}
+use Rattle.std.proofs.Common.{rules, ◌≡◌, Err, subst}
 use Rattle.block_read.specs.declared.fault.PartFault.TheVariants.{Bad}
+use Rattle.block_text.specs.Sums.{Text}
+use Rattle.block_files.specs.declared.encoding.Encoding.{Encoding}
+use Rattle.block_files.specs.Files.{StandsAt}
 use Rattle.block_files.proofs.Elements.{one_stands}
 use Rattle.block_read.specs.Blocks.{data_in}
 use Rattle.block_read.proofs.chunks.read_chunk.Goals as goal
@@ -23,3 +26,9 @@ pub returns-clause-only : goal.returns-clause-only
 returns-clause-only c = λ part h there.
     let one = one_stands c.args.files.now c.args.reference c.in-Some.written c.args.encoding c.in-Some.data.now (data_in c.args.encoding part) c.in-Some.ensures.found there in
     c.in_ok-samples.ensures.only part h one.1
+
+pub returns-clause-there : goal.returns-clause-there
+returns-clause-there c =
+    let same : c.in-Some.written ≡ c.args.encoding = search rules in
+    subst (λ (e : Encoding). StandsAt e c.args.files.now c.args.reference (data_in c.args.encoding c.in_ok-samples.samples.items)) same
+    (subst (λ (t : Text). StandsAt c.in-Some.written c.args.files.now c.args.reference t) c.in_ok-samples.ensures.found.1 c.in-Some.ensures.found)
