@@ -6,9 +6,12 @@ use Rattle.std.proofs.lemmas.List.Elements.{All-append, All-cons, All-nil}
 use Rattle.hw_bytes.specs.Writing.{big_bytes, uvarint, uvarint_in}
 use Rattle.head_column.specs.declared.items.Sample.{Sample}
 use Rattle.head_column.specs.declared.chunk.Chunk.{Chunk}
-use Rattle.head_column.specs.Chunks.{chunk_of, chunk_text, chunks_of, parts_in, sample_text, samples_text, time_text, value_text}
-use Rattle.block_files.specs.Files.{AreShort, all_texts}
-use Rattle.block_read.specs.Blocks.{chunks_of_rows}
+use Rattle.head_column.specs.Chunks.{chunk_text, parts_in, sample_text, samples_text, time_text, value_text}
+use Rattle.xor_chunk.specs.Chunks.{xor_text}
+use Rattle.block_files.specs.declared.encoding.Encoding.{Encoding}
+use Rattle.block_files.specs.declared.encoding.Encoding.TheVariants.{Raw, Xor}
+use Rattle.block_files.specs.Files.{AreShort, all_texts, longest_chunk}
+use Rattle.block_read.specs.Blocks.{chunk_in, chunks_in, chunks_of_rows, data_in}
 
 uvarint_in-short : (k n : ℕ) → length (uvarint_in k n) ≤ suc k
 unfolding uvarint_in
@@ -40,16 +43,24 @@ chunk_text-short xs few =
     omega (arith, samples_text-short None xs, few, count, length-append (big_bytes 2 (length xs)) (samples_text None xs))
 
 abbrev IsShort : List ℕ → Type 0
-IsShort bytes = length bytes ≤ 2162
+IsShort bytes = length bytes ≤ longest_chunk
 
-parts-short : (k : ℕ) (xs : List Sample) → All IsShort (map (λ (c : Chunk). c.text) (map chunk_of (parts_in k 120 xs)))
-parts-short zero xs = All-nil IsShort
-parts-short (suc k) [] = All-nil IsShort
-parts-short (suc k) (x ∷ xs) =
-    All-cons IsShort (chunk_text (take 120 (x ∷ xs))) (map (λ (c : Chunk). c.text) (map chunk_of (parts_in k 120 (drop 120 (x ∷ xs)))))
-    (chunk_text-short (take 120 (x ∷ xs)) (omega (arith, length-take 120 (x ∷ xs)))) (parts-short k (drop 120 (x ∷ xs)))
+-- how long XOR chunks are
+abbrev XorsAreShort : Type 0
+XorsAreShort = (samples : List Sample) → length samples ≤ 120 → length (xor_text samples) ≤ 2180
+
+data-short : (e : Encoding) → XorsAreShort → (xs : List Sample) → length xs ≤ 120 → IsShort (data_in e xs)
+data-short Raw law xs few = omega (arith, chunk_text-short xs few)
+data-short Xor law xs few = law xs few
+
+parts-short : (e : Encoding) → XorsAreShort → (k : ℕ) (xs : List Sample) → All IsShort (map (λ (c : Chunk). c.text) (map (chunk_in e) (parts_in k 120 xs)))
+parts-short e law zero xs = All-nil IsShort
+parts-short e law (suc k) [] = All-nil IsShort
+parts-short e law (suc k) (x ∷ xs) =
+    All-cons IsShort (data_in e (take 120 (x ∷ xs))) (map (λ (c : Chunk). c.text) (map (chunk_in e) (parts_in k 120 (drop 120 (x ∷ xs)))))
+    (data-short e law (take 120 (x ∷ xs)) (omega (arith, length-take 120 (x ∷ xs)))) (parts-short e law k (drop 120 (x ∷ xs)))
 
 -- the chunks of any samples are short enough
-pub chunks-short : (samples : List (List Sample)) → AreShort (chunks_of_rows samples)
-chunks-short [] = All-nil IsShort
-chunks-short (xs ∷ rest) = All-append IsShort (map (λ (c : Chunk). c.text) (chunks_of xs)) (all_texts (chunks_of_rows rest)) (parts-short (length xs) xs) (chunks-short rest)
+pub chunks-short : (e : Encoding) → ((samples : List Sample) → length samples ≤ 120 → length (xor_text samples) ≤ 2180) → (samples : List (List Sample)) → AreShort (chunks_of_rows e samples)
+chunks-short e law [] = All-nil IsShort
+chunks-short e law (xs ∷ rest) = All-append IsShort (map (λ (c : Chunk). c.text) (chunks_in e xs)) (all_texts (chunks_of_rows e rest)) (parts-short e law (length xs) xs) (chunks-short e law rest)

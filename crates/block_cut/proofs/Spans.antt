@@ -7,10 +7,12 @@ use Rattle.std.proofs.lemmas.List.{length-append}
 use Rattle.std.proofs.lemmas.List.Sums.{sum_by-cons}
 use Rattle.head_column.specs.declared.items.Sample.{Sample}
 use Rattle.head_column.specs.declared.chunk.Chunk.{Chunk}
-use Rattle.head_column.specs.Chunks.{AreFull, chunk_of, chunk_samples, chunks_of, first_time, last_time, parts}
+use Rattle.head_column.specs.Chunks.{AreFull, chunk_samples, first_time, last_time, parts}
 use Rattle.head_column.specs.Samples.{Rises}
 use Rattle.head_column.proofs.Parts.{parts_are}
 use Rattle.index_parts.specs.Rows.{IsChain}
+use Rattle.block_files.specs.declared.encoding.Encoding.{Encoding}
+use Rattle.block_read.specs.Blocks.{chunk_in, chunks_in}
 
 abbrev joined : List (List Sample) → List Sample
 joined ps = flat_map (λ (p : List Sample). p) ps
@@ -52,36 +54,36 @@ full_rest : (p : List Sample) (ps : List (List Sample)) → AreFull chunk_sample
 full_rest p [] f = tt
 full_rest p (q ∷ more) f = f.1
 
-forward_parts : (ps : List (List Sample)) → AreFull chunk_samples ps → Rises (joined ps) → AllByRecursion IsForward (map chunk_of ps)
-forward_parts [] f h = tt
-forward_parts (p ∷ ps) f h = (forward p (some_first p ps f) (front p (joined ps) h), forward_parts ps (full_rest p ps f) (back p (joined ps) h))
+forward_parts : (e : Encoding) (ps : List (List Sample)) → AreFull chunk_samples ps → Rises (joined ps) → AllByRecursion IsForward (map (chunk_in e) ps)
+forward_parts e [] f h = tt
+forward_parts e (p ∷ ps) f h = (forward p (some_first p ps f) (front p (joined ps) h), forward_parts e ps (full_rest p ps f) (back p (joined ps) h))
 
 next_first : (p q : List Sample) (more : List Sample) → 0 < length p → 0 < length q → Rises (p ++ q ++ more) → last_time p <ℤ first_time q
 next_first p [] more some next h = absurd (omega arith)
 next_first p (t ∷ q) more some next h = last_first p t q some (front (p ++ t ∷ q) more h)
 
-apart_parts : (ps : List (List Sample)) → AreFull chunk_samples ps → Rises (joined ps) → IsChain IsBefore (map chunk_of ps)
-apart_parts [] f h = tt
-apart_parts (p ∷ []) f h = tt
-apart_parts (p ∷ q ∷ more) f h = (
+apart_parts : (e : Encoding) (ps : List (List Sample)) → AreFull chunk_samples ps → Rises (joined ps) → IsChain IsBefore (map (chunk_in e) ps)
+apart_parts e [] f h = tt
+apart_parts e (p ∷ []) f h = tt
+apart_parts e (p ∷ q ∷ more) f h = (
   next_first p q (joined more) (some_first p (q ∷ more) f) (some_first q more (full_rest p (q ∷ more) f)) (subst Rises (sym (append_assoc p q (joined more))) h),
-  apart_parts (q ∷ more) (full_rest p (q ∷ more) f) (back p (joined (q ∷ more)) h),
+  apart_parts e (q ∷ more) (full_rest p (q ∷ more) f) (back p (joined (q ∷ more)) h),
 )
 
-pub chunks-forward : (xs : List Sample) → Rises xs → AllByRecursion (λ (c : Chunk). c.min_time ≤ℤ c.max_time) (chunks_of xs)
-chunks-forward xs h =
+pub chunks-forward : (e : Encoding) (xs : List Sample) → Rises xs → AllByRecursion (λ (c : Chunk). c.min_time ≤ℤ c.max_time) (chunks_in e xs)
+chunks-forward e xs h =
     let cut = parts_are chunk_samples (omega arith) xs in
-    forward_parts (parts chunk_samples xs) cut.full (subst Rises (sym cut.joined) h)
+    forward_parts e (parts chunk_samples xs) cut.full (subst Rises (sym cut.joined) h)
 
-pub chunks-apart : (xs : List Sample) → Rises xs → IsChain (λ (a b : Chunk). a.max_time <ℤ b.min_time) (chunks_of xs)
-chunks-apart xs h =
+pub chunks-apart : (e : Encoding) (xs : List Sample) → Rises xs → IsChain (λ (a b : Chunk). a.max_time <ℤ b.min_time) (chunks_in e xs)
+chunks-apart e xs h =
     let cut = parts_are chunk_samples (omega arith) xs in
-    apart_parts (parts chunk_samples xs) cut.full (subst Rises (sym cut.joined) h)
+    apart_parts e (parts chunk_samples xs) cut.full (subst Rises (sym cut.joined) h)
 
 -- how many samples the chunks have
-parts_count : (ps : List (List Sample)) → sum_by (λ (c : Chunk). c.count) (map chunk_of ps) ≡ length (joined ps)
-parts_count [] = refl
-parts_count (p ∷ ps) = sum_by-cons (λ (c : Chunk). c.count) (chunk_of p) (map chunk_of ps) ∙ ap (λ (n : ℕ). length p + n) (parts_count ps) ∙ sym (length-append p (joined ps))
+parts_count : (e : Encoding) (ps : List (List Sample)) → sum_by (λ (c : Chunk). c.count) (map (chunk_in e) ps) ≡ length (joined ps)
+parts_count e [] = refl
+parts_count e (p ∷ ps) = sum_by-cons (λ (c : Chunk). c.count) (chunk_in e p) (map (chunk_in e) ps) ∙ ap (λ (n : ℕ). length p + n) (parts_count e ps) ∙ sym (length-append p (joined ps))
 
-pub chunks-count : (xs : List Sample) → sum_by (λ (c : Chunk). c.count) (chunks_of xs) ≡ length xs
-chunks-count xs = parts_count (parts chunk_samples xs) ∙ ap length (parts_are chunk_samples (omega arith) xs).joined
+pub chunks-count : (e : Encoding) (xs : List Sample) → sum_by (λ (c : Chunk). c.count) (chunks_in e xs) ≡ length xs
+chunks-count e xs = parts_count e (parts chunk_samples xs) ∙ ap length (parts_are chunk_samples (omega arith) xs).joined

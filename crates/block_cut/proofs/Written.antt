@@ -12,7 +12,7 @@ use Rattle.wal_record.specs.Labels.{Labels, compare_labels}
 use Rattle.head_column.specs.declared.items.Run.{Run}
 use Rattle.head_column.specs.declared.items.Sample.{Sample}
 use Rattle.head_column.specs.declared.chunk.Chunk.{Chunk}
-use Rattle.head_column.specs.Chunks.{chunks_of}
+use Rattle.head_column.specs.Chunks.{chunk_samples, parts}
 use Rattle.block_text.specs.declared.fault.WriteFault.{WriteFault}
 use Rattle.block_text.specs.declared.fault.WriteFault.TheVariants.{TooLarge, Memory}
 use Rattle.block_text.specs.Sums.{Text}
@@ -20,10 +20,11 @@ use Rattle.index_parts.specs.declared.row.ChunkMeta.{ChunkMeta}
 use Rattle.index_parts.specs.declared.row.IndexRow.{IndexRow}
 use Rattle.index_parts.specs.Rows.{AreRows, FitsChunk, FitsIndex, IsChain, IsRow}
 use Rattle.block_files.specs.declared.meta.Meta.{Meta}
-use Rattle.block_files.specs.Files.{all_texts, references, row_references, texts}
+use Rattle.block_files.specs.declared.encoding.Encoding.{Encoding}
+use Rattle.block_files.specs.Files.{references, row_references, texts}
 use Rattle.block_read.specs.declared.block.Block.{Block}
 use Rattle.block_read.specs.declared.rows.BlockRow.{BlockRow}
-use Rattle.block_read.specs.Blocks.{IsRowOf, chunks_of_rows, file_limit, index_rows, meta_of, metas_of, samples_of_rows}
+use Rattle.block_read.specs.Blocks.{IsRowOf, chunk_count as count_of_chunks, chunk_in, chunks_in, chunks_of_rows, file_limit, index_rows, meta_of, metas_of, samples_of_rows}
 use Rattle.block_read.proofs.Assembled.{flat_samples}
 use Rattle.block_read.proofs.Few.{are_few}
 use Rattle.block_read.proofs.Named.{index_chunks}
@@ -36,17 +37,17 @@ use Rattle.block_cut.proofs.Spans.{chunks-apart, chunks-count, chunks-forward}
 
 -- ---- the columns of rows
 
-pub labels_are : (bs : List BlockRow) → map (λ (r : CutRow). r.labels) (map in_chunks bs) ≡ map (λ (b : BlockRow). b.labels) bs
-labels_are [] = refl
-labels_are (b ∷ bs) = ap (λ (ls : List Labels). b.labels ∷ ls) (labels_are bs)
+pub labels_are : (enc : Encoding) (bs : List BlockRow) → map (λ (r : CutRow). r.labels) (map (in_chunks enc) bs) ≡ map (λ (b : BlockRow). b.labels) bs
+labels_are enc [] = refl
+labels_are enc (b ∷ bs) = ap (λ (ls : List Labels). b.labels ∷ ls) (labels_are enc bs)
 
-pub chunks_are : (bs : List BlockRow) → map (λ (r : CutRow). r.chunks) (map in_chunks bs) ≡ chunks_of_rows (samples_of_rows bs)
-chunks_are [] = refl
-chunks_are (b ∷ bs) = ap (λ (cs : List (List Chunk)). chunks_of b.samples ∷ cs) (chunks_are bs)
+pub chunks_are : (enc : Encoding) (bs : List BlockRow) → map (λ (r : CutRow). r.chunks) (map (in_chunks enc) bs) ≡ chunks_of_rows enc (samples_of_rows bs)
+chunks_are enc [] = refl
+chunks_are enc (b ∷ bs) = ap (λ (cs : List (List Chunk)). chunks_in enc b.samples ∷ cs) (chunks_are enc bs)
 
-pub hidden_are : (bs : List BlockRow) → map (λ (r : CutRow). r.hidden) (map in_chunks bs) ≡ map (λ (b : BlockRow). b.hidden) bs
-hidden_are [] = refl
-hidden_are (b ∷ bs) = ap (λ (rs : List (List Run)). b.hidden ∷ rs) (hidden_are bs)
+pub hidden_are : (enc : Encoding) (bs : List BlockRow) → map (λ (r : CutRow). r.hidden) (map (in_chunks enc) bs) ≡ map (λ (b : BlockRow). b.hidden) bs
+hidden_are enc [] = refl
+hidden_are enc (b ∷ bs) = ap (λ (rs : List (List Run)). b.hidden ∷ rs) (hidden_are enc bs)
 
 -- ---- the rows of the index
 
@@ -56,12 +57,12 @@ zip_labels [] ms = refl
 zip_labels (b ∷ bs) [] = refl
 zip_labels (b ∷ bs) (m ∷ ms) = ap (λ (rs : List IndexRow). record { labels = b.labels; chunks = m } ∷ rs) (zip_labels bs ms)
 
-pub index_rows_are : (those : List BlockRow) (labels : List Labels) (metas : List (List ChunkMeta)) → labels ≡ map (λ (b : BlockRow). b.labels) those → metas ≡ metas_in (chunks_of_rows (samples_of_rows those))
-    → index_rows_of labels metas ≡ index_rows those
+pub index_rows_are : (enc : Encoding) (those : List BlockRow) (labels : List Labels) (metas : List (List ChunkMeta)) → labels ≡ map (λ (b : BlockRow). b.labels) those → metas ≡ metas_in enc (chunks_of_rows enc (samples_of_rows those))
+    → index_rows_of labels metas ≡ index_rows enc those
 unfolding index_rows metas_of
-index_rows_are those labels metas e f =
+index_rows_are enc those labels metas e f =
     ap (λ (ls : List Labels). index_rows_of ls metas) e ∙ ap (λ (ms : List (List ChunkMeta)). index_rows_of (map (λ (b : BlockRow). b.labels) those) ms) f
-    ∙ zip_labels those (metas_of (samples_of_rows those))
+    ∙ zip_labels those (metas_of enc (samples_of_rows those))
 
 -- ---- they have an index
 
@@ -76,12 +77,12 @@ along_long f (x ∷ xs) = ap suc (along_long (λ before y. f (x ∷ before) y) x
 abbrev AreAsLong : List Text → List ℕ → Type 0
 AreAsLong ts rs = length rs ≡ length ts
 
-references_each : (rows : List (List Text)) → AllZip AreAsLong rows (references file_limit rows)
-references_each rows = along_each AreAsLong (row_references file_limit) (λ before row. along_long _ row) rows
+references_each : (enc : Encoding) (rows : List (List Text)) → AllZip AreAsLong rows (references enc file_limit rows)
+references_each enc rows = along_each AreAsLong (row_references enc file_limit) (λ before row. along_long _ row) rows
 
 -- some rows, and the references of their chunks
-abbrev rows_by : List BlockRow → List (List ℕ) → List IndexRow
-rows_by bs rss = map (λ (x : BlockRow × List ChunkMeta). record { labels = x.0.labels; chunks = x.1 }) (zip bs (map named (zip (chunks_of_rows (samples_of_rows bs)) rss)))
+abbrev rows_by : Encoding → List BlockRow → List (List ℕ) → List IndexRow
+rows_by enc bs rss = map (λ (x : BlockRow × List ChunkMeta). record { labels = x.0.labels; chunks = x.1 }) (zip bs (map named (zip (chunks_of_rows enc (samples_of_rows bs)) rss)))
 
 metas_forward : (cs : List Chunk) (rs : List ℕ) → AllByRecursion (λ (c : Chunk). c.min_time ≤ℤ c.max_time) cs → AllByRecursion (λ (m : ChunkMeta). m.min_time ≤ℤ m.max_time) (map meta_of (zip cs rs))
 metas_forward [] rs h = tt
@@ -95,73 +96,77 @@ metas_apart (c ∷ []) (r ∷ rs) h = tt
 metas_apart (c ∷ d ∷ cs) (r ∷ []) h = tt
 metas_apart (c ∷ d ∷ cs) (r ∷ s ∷ rs) h = (h.0, metas_apart (d ∷ cs) (s ∷ rs) h.1)
 
-some_metas : (xs : List Sample) (rs : List ℕ) → 0 < length xs → length rs ≡ length (map (λ (c : Chunk). c.text) (chunks_of xs)) → 0 < length (map meta_of (zip (chunks_of xs) rs))
-some_metas [] rs some e = absurd (omega arith)
-some_metas (x ∷ xs) [] some e = absurd (omega arith)
-some_metas (x ∷ xs) (r ∷ rs) some e = omega arith
+some_metas : (enc : Encoding) (xs : List Sample) (rs : List ℕ) → 0 < length xs → length rs ≡ length (map (λ (c : Chunk). c.text) (chunks_in enc xs)) → 0 < length (map meta_of (zip (chunks_in enc xs) rs))
+some_metas enc [] rs some e = absurd (omega arith)
+some_metas enc (x ∷ xs) [] some e = absurd (omega arith)
+some_metas enc (x ∷ xs) (r ∷ rs) some e = omega arith
 
-each_by : (k : ℤ) (bs : List BlockRow) (rss : List (List ℕ)) → AllByRecursion (IsRowOf k) bs → AllZip AreAsLong (texts (chunks_of_rows (samples_of_rows bs))) rss
-    → AllByRecursion (All FitsChunk) (map named (zip (chunks_of_rows (samples_of_rows bs)) rss)) → AllByRecursion IsRow (rows_by bs rss)
-each_by k [] rss h long fit = tt
-each_by k (b ∷ bs) [] h long fit = tt
-each_by k (b ∷ bs) (rs ∷ rss) h long fit = (
+each_by : (enc : Encoding) (k : ℤ) (bs : List BlockRow) (rss : List (List ℕ)) → AllByRecursion (IsRowOf k) bs → AllZip AreAsLong (texts (chunks_of_rows enc (samples_of_rows bs))) rss
+    → AllByRecursion (All FitsChunk) (map named (zip (chunks_of_rows enc (samples_of_rows bs)) rss)) → AllByRecursion IsRow (rows_by enc bs rss)
+each_by enc k [] rss h long fit = tt
+each_by enc k (b ∷ bs) [] h long fit = tt
+each_by enc k (b ∷ bs) (rs ∷ rss) h long fit = (
   record {
     labels = h.0.labels;
-    some = some_metas b.samples rs h.0.some long.0;
-    fit = recursion_from_All FitsChunk (map meta_of (zip (chunks_of b.samples) rs)) fit.0;
-    forward = metas_forward (chunks_of b.samples) rs (chunks-forward b.samples h.0.rises);
-    apart = metas_apart (chunks_of b.samples) rs (chunks-apart b.samples h.0.rises);
+    some = some_metas enc b.samples rs h.0.some long.0;
+    fit = recursion_from_All FitsChunk (map meta_of (zip (chunks_in enc b.samples) rs)) fit.0;
+    forward = metas_forward (chunks_in enc b.samples) rs (chunks-forward enc b.samples h.0.rises);
+    apart = metas_apart (chunks_in enc b.samples) rs (chunks-apart enc b.samples h.0.rises);
   },
-  each_by k bs rss h.1 long.1 fit.1,
+  each_by enc k bs rss h.1 long.1 fit.1,
 )
 
-ascending_by : (bs : List BlockRow) (rss : List (List ℕ)) → IsChain (λ (a b : BlockRow). compare_labels a.labels b.labels ≡ Less) bs → IsChain (λ (a b : IndexRow). compare_labels a.labels b.labels ≡ Less) (rows_by bs rss)
-ascending_by [] rss h = tt
-ascending_by (b ∷ bs) [] h = tt
-ascending_by (b ∷ []) (r ∷ rss) h = tt
-ascending_by (b ∷ d ∷ bs) (r ∷ []) h = tt
-ascending_by (b ∷ d ∷ bs) (r ∷ s ∷ rss) h = (h.0, ascending_by (d ∷ bs) (s ∷ rss) h.1)
+ascending_by : (enc : Encoding) (bs : List BlockRow) (rss : List (List ℕ)) → IsChain (λ (a b : BlockRow). compare_labels a.labels b.labels ≡ Less) bs → IsChain (λ (a b : IndexRow). compare_labels a.labels b.labels ≡ Less) (rows_by enc bs rss)
+ascending_by enc [] rss h = tt
+ascending_by enc (b ∷ bs) [] h = tt
+ascending_by enc (b ∷ []) (r ∷ rss) h = tt
+ascending_by enc (b ∷ d ∷ bs) (r ∷ []) h = tt
+ascending_by enc (b ∷ d ∷ bs) (r ∷ s ∷ rss) h = (h.0, ascending_by enc (d ∷ bs) (s ∷ rss) h.1)
 
-some_by : (bs : List BlockRow) (rss : List (List ℕ)) → 0 < length bs → AllZip AreAsLong (texts (chunks_of_rows (samples_of_rows bs))) rss → 0 < length (rows_by bs rss)
-some_by [] rss some h = absurd (omega arith)
-some_by (b ∷ bs) [] some h = absurd h
-some_by (b ∷ bs) (rs ∷ rss) some h = omega arith
+some_by : (enc : Encoding) (bs : List BlockRow) (rss : List (List ℕ)) → 0 < length bs → AllZip AreAsLong (texts (chunks_of_rows enc (samples_of_rows bs))) rss → 0 < length (rows_by enc bs rss)
+some_by enc [] rss some h = absurd (omega arith)
+some_by enc (b ∷ bs) [] some h = absurd h
+some_by enc (b ∷ bs) (rs ∷ rss) some h = omega arith
 
-pub index_rows-AreRows : (k : ℤ) (those : List BlockRow) (metas : List (List ChunkMeta)) → 0 < length those → All (IsRowOf k) those → IsChain (λ (a b : BlockRow). compare_labels a.labels b.labels ≡ Less) those
-    → metas ≡ metas_in (chunks_of_rows (samples_of_rows those)) → All (All FitsChunk) metas → AreRows (index_rows those)
+pub index_rows-AreRows : (enc : Encoding) (k : ℤ) (those : List BlockRow) (metas : List (List ChunkMeta)) → 0 < length those → All (IsRowOf k) those → IsChain (λ (a b : BlockRow). compare_labels a.labels b.labels ≡ Less) those
+    → metas ≡ metas_in enc (chunks_of_rows enc (samples_of_rows those)) → All (All FitsChunk) metas → AreRows (index_rows enc those)
 unfolding index_rows metas_of
-index_rows-AreRows k those metas some each up e fit =
-    let refs = references file_limit (texts (chunks_of_rows (samples_of_rows those))) in
-    let long = references_each (texts (chunks_of_rows (samples_of_rows those))) in
+index_rows-AreRows enc k those metas some each up e fit =
+    let refs = references enc file_limit (texts (chunks_of_rows enc (samples_of_rows those))) in
+    let long = references_each enc (texts (chunks_of_rows enc (samples_of_rows those))) in
     record {
-      some = some_by those refs some long;
-      each = each_by k those refs (recursion_from_All (IsRowOf k) those each) long (recursion_from_All (All FitsChunk) (metas_in (chunks_of_rows (samples_of_rows those))) (subst (All (All FitsChunk)) e fit));
-      ascending = ascending_by those refs up;
+      some = some_by enc those refs some long;
+      each = each_by enc k those refs (recursion_from_All (IsRowOf k) those each) long (recursion_from_All (All FitsChunk) (metas_in enc (chunks_of_rows enc (samples_of_rows those))) (subst (All (All FitsChunk)) e fit));
+      ascending = ascending_by enc those refs up;
     }
 
 -- ---- the counts
 
-samples_count : (bs : List BlockRow) → sample_count (chunks_of_rows (samples_of_rows bs)) ≡ length (flat_map (λ (b : BlockRow). b.samples) bs)
-samples_count [] = refl
-samples_count (b ∷ bs) =
-    sum_by-cons chunk_count (chunks_of b.samples) (chunks_of_rows (samples_of_rows bs)) ∙ ap (λ (n : ℕ). n + sample_count (chunks_of_rows (samples_of_rows bs))) (chunks-count b.samples)
-    ∙ ap (λ (n : ℕ). length b.samples + n) (samples_count bs) ∙ sym (length-append b.samples (flat_map (λ (b : BlockRow). b.samples) bs))
+samples_count : (enc : Encoding) (bs : List BlockRow) → sample_count (chunks_of_rows enc (samples_of_rows bs)) ≡ length (flat_map (λ (b : BlockRow). b.samples) bs)
+samples_count enc [] = refl
+samples_count enc (b ∷ bs) =
+    sum_by-cons chunk_count (chunks_in enc b.samples) (chunks_of_rows enc (samples_of_rows bs)) ∙ ap (λ (n : ℕ). n + sample_count (chunks_of_rows enc (samples_of_rows bs))) (chunks-count enc b.samples)
+    ∙ ap (λ (n : ℕ). length b.samples + n) (samples_count enc bs) ∙ sym (length-append b.samples (flat_map (λ (b : BlockRow). b.samples) bs))
 
-chunks_count : (rows : List (List Chunk)) → sum_by length rows ≡ length (all_texts rows)
-chunks_count [] = refl
-chunks_count (cs ∷ rows) =
-    let long : length (map (λ (c : Chunk). c.text) cs) ≡ length cs = simp length-map in
-    sum_by-cons length cs rows ∙ ap (λ (n : ℕ). n + sum_by length rows) (sym long) ∙ ap (λ (n : ℕ). length (map (λ (c : Chunk). c.text) cs) + n) (chunks_count rows)
-    ∙ sym (length-append (map (λ (c : Chunk). c.text) cs) (all_texts rows))
+chunks_count : (enc : Encoding) (samples : List (List Sample)) → sum_by length (chunks_of_rows enc samples) ≡ count_of_chunks samples
+chunks_count enc [] = refl
+chunks_count enc (s ∷ samples) =
+    omega (
+      arith,
+      sum_by-cons length (chunks_in enc s) (chunks_of_rows enc samples),
+      length-map (parts chunk_samples s) (chunk_in enc),
+      chunks_count enc samples,
+      length-append (parts chunk_samples s) (flat_map (parts chunk_samples) samples),
+    )
 
 -- Where the index fits, no count stays at the greatest.
-pub counts_are : (those : List BlockRow) (chunks : List (List Chunk)) (samples count : ℕ) → FitsIndex (index_rows those) → ((rows : List IndexRow) → FitsIndex rows → sum_by (λ (r : IndexRow). length r.chunks) rows < 2 ^ 37)
-    → chunks ≡ chunks_of_rows (samples_of_rows those) → samples ≡ u64_saturate (sample_count chunks) → count ≡ u64_saturate (sum_by length chunks)
-    → (samples ≡ length (flat_map (λ (b : BlockRow). b.samples) those)) × (count ≡ length (all_texts (chunks_of_rows (samples_of_rows those))))
-counts_are those chunks samples count fits law e f g =
-    let few = are_few (index_rows those) (samples_of_rows those) (index_chunks those) (law (index_rows those) fits) in (
-      omega (arith, f, few.few_samples, ap sample_count e, samples_count those, ap length (flat_samples those)),
-      omega (arith, g, few.few_chunks, ap (sum_by length) e, chunks_count (chunks_of_rows (samples_of_rows those))),
+pub counts_are : (enc : Encoding) (those : List BlockRow) (chunks : List (List Chunk)) (samples count : ℕ) → FitsIndex (index_rows enc those) → ((rows : List IndexRow) → FitsIndex rows → sum_by (λ (r : IndexRow). length r.chunks) rows < 2 ^ 37)
+    → chunks ≡ chunks_of_rows enc (samples_of_rows those) → samples ≡ u64_saturate (sample_count chunks) → count ≡ u64_saturate (sum_by length chunks)
+    → (samples ≡ length (flat_map (λ (b : BlockRow). b.samples) those)) × (count ≡ count_of_chunks (samples_of_rows those))
+counts_are enc those chunks samples count fits law e f g =
+    let few = are_few enc (index_rows enc those) (samples_of_rows those) (index_chunks enc those) (law (index_rows enc those) fits) in (
+      omega (arith, f, few.few_samples, ap sample_count e, samples_count enc those, ap length (flat_samples those)),
+      omega (arith, g, few.few_chunks, ap (sum_by length) e, chunks_count enc (samples_of_rows those)),
     )
 
 -- ---- what code makes of them
@@ -182,17 +187,17 @@ same_meta ulid a b c d l m n o p q e f g h i =
 
 -- ---- the rows that code has of the index, from what its calls gave
 
-pub chunks_from : (rows : List CutRow) (those : List BlockRow) (chunks : List (List Chunk)) → chunks ≡ map (λ (r : CutRow). r.chunks) rows → rows ≡ map in_chunks those → chunks ≡ chunks_of_rows (samples_of_rows those)
-chunks_from rows those chunks e f = e ∙ ap (map (λ (r : CutRow). r.chunks)) f ∙ chunks_are those
+pub chunks_from : (enc : Encoding) (rows : List CutRow) (those : List BlockRow) (chunks : List (List Chunk)) → chunks ≡ map (λ (r : CutRow). r.chunks) rows → rows ≡ map (in_chunks enc) those → chunks ≡ chunks_of_rows enc (samples_of_rows those)
+chunks_from enc rows those chunks e f = e ∙ ap (map (λ (r : CutRow). r.chunks)) f ∙ chunks_are enc those
 
-pub labels_from : (rows : List CutRow) (those : List BlockRow) (labels : List Labels) → labels ≡ map (λ (r : CutRow). r.labels) rows → rows ≡ map in_chunks those → labels ≡ map (λ (b : BlockRow). b.labels) those
-labels_from rows those labels e f = e ∙ ap (map (λ (r : CutRow). r.labels)) f ∙ labels_are those
+pub labels_from : (enc : Encoding) (rows : List CutRow) (those : List BlockRow) (labels : List Labels) → labels ≡ map (λ (r : CutRow). r.labels) rows → rows ≡ map (in_chunks enc) those → labels ≡ map (λ (b : BlockRow). b.labels) those
+labels_from enc rows those labels e f = e ∙ ap (map (λ (r : CutRow). r.labels)) f ∙ labels_are enc those
 
-pub hidden_from : (rows : List CutRow) (those : List BlockRow) (hidden : List (List Run)) → hidden ≡ map (λ (r : CutRow). r.hidden) rows → rows ≡ map in_chunks those → hidden ≡ map (λ (b : BlockRow). b.hidden) those
-hidden_from rows those hidden e f = e ∙ ap (map (λ (r : CutRow). r.hidden)) f ∙ hidden_are those
+pub hidden_from : (enc : Encoding) (rows : List CutRow) (those : List BlockRow) (hidden : List (List Run)) → hidden ≡ map (λ (r : CutRow). r.hidden) rows → rows ≡ map (in_chunks enc) those → hidden ≡ map (λ (b : BlockRow). b.hidden) those
+hidden_from enc rows those hidden e f = e ∙ ap (map (λ (r : CutRow). r.hidden)) f ∙ hidden_are enc those
 
-pub metas_from : (those : List BlockRow) (chunks : List (List Chunk)) (metas : List (List ChunkMeta)) → chunks ≡ chunks_of_rows (samples_of_rows those) → metas ≡ metas_in chunks → metas ≡ metas_in (chunks_of_rows (samples_of_rows those))
-metas_from those chunks metas e f = f ∙ ap metas_in e
+pub metas_from : (enc : Encoding) (those : List BlockRow) (chunks : List (List Chunk)) (metas : List (List ChunkMeta)) → chunks ≡ chunks_of_rows enc (samples_of_rows those) → metas ≡ metas_in enc chunks → metas ≡ metas_in enc (chunks_of_rows enc (samples_of_rows those))
+metas_from enc those chunks metas e f = f ∙ ap (metas_in enc) e
 
 pub too_large : (fault : WriteFault) → cut_fault fault ≡ cut.TooLarge → fault ≡ TooLarge
 too_large TooLarge e = refl
@@ -203,6 +208,6 @@ pub unless : {P : Type 0} (b : Bool) → b ≡ false → (P → b ≡ true) → 
 unless b e f p = (let yes : b ≡ true = f p in cc)
 
 -- rows that are there
-pub some_rows : (those : List BlockRow) (rows : Vec CutRow Global) → rows.items ≡ map in_chunks those → (vec_len rows == 0) ≡ false → 0 < length those
-some_rows [] rows e off = (let none : vec_len rows ≡ 0 = omega (arith, ap length e) in let empty : (vec_len rows == 0) ≡ true = ap (λ (n : ℕ). n == 0) none in cc)
-some_rows (b ∷ those) rows e off = omega arith
+pub some_rows : (enc : Encoding) (those : List BlockRow) (rows : Vec CutRow Global) → rows.items ≡ map (in_chunks enc) those → (vec_len rows == 0) ≡ false → 0 < length those
+some_rows enc [] rows e off = (let none : vec_len rows ≡ 0 = omega (arith, ap length e) in let empty : (vec_len rows == 0) ≡ true = ap (λ (n : ℕ). n == 0) none in cc)
+some_rows enc (b ∷ those) rows e off = omega arith

@@ -12,6 +12,7 @@ use Rattle.head_core.specs.Heads.{history_at}
 use Rattle.index_parts.specs.declared.row.ChunkMeta.{ChunkMeta}
 use Rattle.index_parts.specs.declared.row.IndexRow.{IndexRow}
 use Rattle.index_parts.specs.Rows.{IsChain}
+use Rattle.block_files.specs.declared.encoding.Encoding.{Encoding}
 use Rattle.block_files.specs.declared.tombstones.Tombstone.{Tombstone}
 use Rattle.block_files.specs.Files.{references, texts}
 use Rattle.block_read.specs.declared.rows.BlockRow.{BlockRow}
@@ -20,10 +21,10 @@ use Rattle.hour_rows.specs.declared.rows.CutRow.{CutRow}
 use Rattle.hour_rows.specs.Chunked.{in_chunks}
 use Rattle.block_cut.specs.Ranges.{IsFull}
 
--- These are rows of the hour with their samples in chunks: at least one, in the order of label sets.
-pub record AreCutRows (k : ℤ) (rows : List CutRow) : Type 0 where
+-- These are rows of the hour with their samples in chunks of this encoding: at least one, in the order of label sets.
+pub record AreCutRows (e : Encoding) (k : ℤ) (rows : List CutRow) : Type 0 where
   pub those : List BlockRow
-  pub cut : rows ≡ map in_chunks those
+  pub cut : rows ≡ map (in_chunks e) those
   pub some : 0 < length those
   pub each : All (IsRowOf k) those
   pub ascending : IsChain (λ (a b : BlockRow). compare_labels a.labels b.labels ≡ Less) those
@@ -33,8 +34,8 @@ abbrev pub named : List Chunk × List ℕ → List ChunkMeta
 named x = map meta_of (zip x.0 x.1)
 
 -- the entries of the chunks of each row in the index
-abbrev pub metas_in : List (List Chunk) → List (List ChunkMeta)
-metas_in chunks = map named (zip chunks (references file_limit (texts chunks)))
+abbrev pub metas_in : Encoding → List (List Chunk) → List (List ChunkMeta)
+metas_in e chunks = map named (zip chunks (references e file_limit (texts chunks)))
 
 -- the tombstones of a series with this id and these runs
 abbrev pub stones : ℕ × List Run → List Tombstone

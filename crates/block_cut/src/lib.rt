@@ -7,12 +7,12 @@ mod laws;
 mod ranges;
 mod writing;
 
-pub use block_files::write_chunks;
+pub use block_files::{Encoding, write_chunks};
 pub use block_read::{
     BadUlid, Block, BlockFault, BlockRow, BlockRows, ReadFault, Ulid, read_block,
 };
 pub use block_text::WriteFault;
-pub use cutting::cut;
+pub use cutting::{cut, cut_in};
 pub use fault::CutFault;
 pub use laws::one_block;
 pub use ranges::full_ranges;

@@ -14,7 +14,7 @@ ghost use Rattle.hour_rows.specs.Chunked.{in_chunks};
 ghost use Rattle.block_cut.specs.Cutting.{AreCutRows, chunk_count, index_rows_of as rows_of_index, metas_in, sample_count};
 
 use block_files::{
-    CHUNK_FILE_LIMIT, ChunkFiles, Meta, Tombstone, Ulid, write_meta, write_tombstones,
+    CHUNK_FILE_LIMIT, ChunkFiles, Encoding, Meta, Tombstone, Ulid, write_meta, write_tombstones,
 };
 use block_index::{ChunkMeta, IndexRow, NumberedIndex, few_chunks, write_numbered_index};
 use block_read::Block;
@@ -24,6 +24,7 @@ use hour_rows::{CutRow, end_of, first_of};
 use hw_bytes::Items;
 use std::alloc::{AllocError, Global};
 use wal_record::LabelSet;
+use xor_chunk::short_chunk;
 
 // The labels, the chunks and the hidden runs of rows.
 #[derive(Drop)]
@@ -116,15 +117,19 @@ struct Placed {
 }
 
 // Writes the chunks of rows into files. Each row is dropped before the next is written, so that only one row is in memory twice.
-fn place_chunks(alloc: Global, rows: Vec<Items<Chunk>>) -> Result<Placed, WriteFault>
+fn place_chunks(
+    alloc: Global,
+    encoding: Encoding,
+    rows: Vec<Items<Chunk>>,
+) -> Result<Placed, WriteFault>
     requires { AreShort rows.items }
-    ensures files { IfOk result (λ placed. placed.files ≡ chunk_files file_limit (all_texts rows.items)) }
-    ensures metas { IfOk result (λ placed. placed.metas.items ≡ metas_in rows.items) }
+    ensures files { IfOk result (λ placed. placed.files ≡ chunk_files encoding file_limit (all_texts rows.items)) }
+    ensures metas { IfOk result (λ placed. placed.metas.items ≡ metas_in encoding rows.items) }
     ensures fit { IfOk result (λ placed. All (All FitsChunk) placed.metas.items) }
     ensures few { IfOk result (λ placed. length placed.files ≤ 2 ^ 32) }
-    ensures large { result ≡ Err WriteFault.TooLarge → 2 ^ 32 < length (chunk_files file_limit (all_texts rows.items)) }
+    ensures large { result ≡ Err WriteFault.TooLarge → 2 ^ 32 < length (chunk_files encoding file_limit (all_texts rows.items)) }
 {
-    let mut files = ChunkFiles::new(alloc, CHUNK_FILE_LIMIT);
+    let mut files = ChunkFiles::new(alloc, encoding, CHUNK_FILE_LIMIT);
     let mut metas = Vec::with_capacity(alloc, rows.len())?;
     for row in rows {
         let references = files.add_row(alloc, row.as_slice())?;
@@ -209,20 +214,22 @@ fn write_rows(
     })
 }
 
-/// Writes the block of rows of an hour that is no edge. There must be at least one row, in the order of label sets.
+/// Writes the block of rows of an hour that is no edge, with its chunks in this encoding. There must be at least one row, in the order of
+/// label sets.
 pub(crate) fn write_block(
     alloc: Global,
     rows: Vec<CutRow>,
     hour: Hour,
     ulid: &Ulid,
+    encoding: Encoding,
 ) -> Result<Block, WriteFault>
-    requires rows { AreCutRows hour rows.items }
+    requires rows { AreCutRows encoding hour rows.items }
     requires whole { IsEdge hour → ⊥ }
-    ensures block { (those : List Row) → rows.items ≡ map in_chunks those → IfOk result (λ block. block ≡ block_text (record { ulid = ulid.now; hour = hour; rows = those })) }
-    ensures fits { (those : List Row) → rows.items ≡ map in_chunks those → IfOk result (λ _. FitsIndex (index_rows those)) }
+    ensures block { (those : List Row) → rows.items ≡ map (in_chunks encoding) those → IfOk result (λ block. block ≡ block_text encoding (record { ulid = ulid.now; hour = hour; rows = those })) }
+    ensures fits { (those : List Row) → rows.items ≡ map (in_chunks encoding) those → IfOk result (λ _. FitsIndex (index_rows encoding those)) }
     ensures few { IfOk result (λ block. length block.chunks ≤ 2 ^ 32) }
-    ensures large { (those : List Row) → rows.items ≡ map in_chunks those → result ≡ Err WriteFault.TooLarge →
-        FitsIndex (index_rows those) → 2 ^ 32 < length (files_of (samples_of_rows those)) }
+    ensures large { (those : List Row) → rows.items ≡ map (in_chunks encoding) those → result ≡ Err WriteFault.TooLarge →
+        FitsIndex (index_rows encoding those) → 2 ^ 32 < length (files_of encoding (samples_of_rows those)) }
 {
     let Columns {
         labels,
@@ -232,7 +239,9 @@ pub(crate) fn write_block(
     let series = labels.len() as u64;
     let samples = count_samples(&chunks);
     let chunk_count = count_chunks(&chunks);
-    let Placed { files, metas } = place_chunks(alloc, chunks)?;
+    // for the proof: no chunk is too long
+    short_chunk();
+    let Placed { files, metas } = place_chunks(alloc, encoding, chunks)?;
     let Indexed { index, tombstones } = write_rows(alloc, labels, metas, &hidden)?;
     // for the proof: the counts did not saturate
     few_chunks();

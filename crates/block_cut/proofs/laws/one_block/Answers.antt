@@ -17,7 +17,7 @@ alike_rows k c d alike =
     ap (λ (ls : List Labels). rows_of k (record d { table = record d.table { series = ls } })) alike.series ∙ ap (λ (hs : List History). rows_of k (record d { table = record d.table { series = c.table.series }; histories = hs })) alike.histories
 
 pub returns-clause-made : goal.returns-clause-made
-returns-clause-made c = λ log m hour ulid records damage content block r i v b. record {
+returns-clause-made c = λ e log m hour ulid records damage content block r i v b. record {
   records = records;
   damage = damage;
   content = content;
@@ -28,9 +28,9 @@ returns-clause-made c = λ log m hour ulid records damage content block r i v b.
 }
 
 pub returns-clause-one : goal.returns-clause-one
-returns-clause-one c = λ log m hour ulid a b x y.
+returns-clause-one c = λ e log m hour ulid a b x y.
     let same = c.one_reading.ensures log x.records y.records x.damage y.damage x.reading y.reading in
     let content : IsContentOf (taken_of m (contents x.records)) y.content = subst (λ (ps : List Placed). IsContentOf (taken_of m (contents ps)) y.content) (sym same.0) y.is_content in
     let valid : y.content.min_valid ≡ x.content.min_valid = y.min_valid ∙ sym x.min_valid in
     let rows = alike_rows hour x.content y.content (c.one_content.ensures (taken_of m (contents x.records)) x.content y.content x.is_content content valid) in
-    x.is_block.text ∙ ap (λ (rs : List BlockRow). block_text (record { ulid = ulid; hour = hour; rows = rs })) (sym rows) ∙ sym y.is_block.text
+    x.is_block.text ∙ ap (λ (rs : List BlockRow). block_text e (record { ulid = ulid; hour = hour; rows = rs })) (sym rows) ∙ sym y.is_block.text

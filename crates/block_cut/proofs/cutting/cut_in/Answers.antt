@@ -7,7 +7,7 @@ use Rattle.block_cut.specs.declared.fault.CutFault.TheVariants as cut
 use Rattle.block_cut.specs.Faults.{cut_fault}
 use Rattle.hour_rows.specs.Rows.{rows_of}
 use Rattle.block_cut.proofs.Written.{some_rows, too_large, unless}
-use Rattle.block_cut.proofs.cutting.cut.Goals as goal
+use Rattle.block_cut.proofs.cutting.cut_in.Goals as goal
 
 pub write_block-requires : goal.write_block-requires
 write_block-requires g c =
@@ -17,7 +17,7 @@ write_block-requires g c =
       rows = record {
         those = those;
         cut = c.in_ok-rows.ensures.rows;
-        some = some_rows those c.in_ok-rows.rows c.in_ok-rows.ensures.rows off;
+        some = some_rows c.args.encoding those c.in_ok-rows.rows c.in_ok-rows.ensures.rows off;
         each = c.in_ok-rows.ensures.each;
         ascending = c.in_ok-rows.ensures.ascending;
       };
@@ -38,7 +38,7 @@ returns-clause-block g c =
     record {
       ulid = c.as_bytes-digits.ensures.held;
       whole = unless c.is_edge.result c.if-is_edge.false c.is_edge.ensures.1;
-      some = some_rows those c.in_ok-rows.rows c.in_ok-rows.ensures.rows off;
+      some = some_rows c.args.encoding those c.in_ok-rows.rows c.in_ok-rows.ensures.rows off;
       each = recursion_from_All (IsRowOf c.args.hour) those c.in_ok-rows.ensures.each;
       ascending = c.in_ok-rows.ensures.ascending;
       index_fits = c.in_ok-write_block.ensures.fits those c.in_ok-rows.ensures.rows;
