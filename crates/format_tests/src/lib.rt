@@ -39,3 +39,5 @@ mod snappy;
 mod texts;
 #[cfg(test)]
 mod unpacked;
+#[cfg(test)]
+mod xor;
