@@ -14,7 +14,7 @@ _prom_head() {
         analyze) options='-h --most --workers --round-pages --min-valid --min-valid-of --help' ;;
         dump) options='-h --pair --from --to --floats --hidden --workers --round-pages --min-valid --min-valid-of --help' ;;
         ranges) options='-h --workers --round-pages --min-valid --min-valid-of --help' ;;
-        cut) options='-h --hour --ulid --out --workers --round-pages --min-valid --min-valid-of --help' ;;
+        cut) options='-h --hour --ulid --out --xor --workers --round-pages --min-valid --min-valid-of --help' ;;
         block) options='-h --help' ;;
         append) options='-h --rows --floats --workers --round-pages --min-valid --min-valid-of --help' ;;
         checkpoint) options='-h --min-valid --min-valid-of --keep-skipped --help' ;;

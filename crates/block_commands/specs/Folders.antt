@@ -63,7 +63,7 @@ WritesBlock did holds old out name block WentWell new =
 abbrev pub Cuts : {S : Type 0} → (S → List Call → S → Type 0) → (S → List ℕ → Found → Type 0) → S → CutRequest → Type 0 → S → Type 0
 Cuts did holds old request WentWell new =
     ((new ≡ old) × (WentWell → ⊥))
-    ⊎ ((log : Files) × (block : Block) × IsLogIn (view_of (holds old)) request.dir.now log × IsBlockOfLog log request.options.min_valid request.hour request.ulid.now block
+    ⊎ ((log : Files) × (block : Block) × IsLogIn (view_of (holds old)) request.dir.now log × IsBlockOfLog request.encoding log request.options.min_valid request.hour request.ulid.now block
     × WritesBlock did holds old request.out.now request.ulid.now block WentWell new)
 
 -- A request to cut writes a block. The other requests change nothing.

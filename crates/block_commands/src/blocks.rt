@@ -2,15 +2,16 @@
 
 use crate::parts::read_parts;
 use crate::report::block_text;
-use block_read::{Block, read_block};
+use block_read::{Block, read_any_block};
 use prom_commands::Answer;
 use prom_store::{Fault, Status, Store};
 use std::alloc::Global;
 
 // Prints what the block of these parts holds.
 fn told(alloc: Global, parts: &Block) -> Result<Answer, Fault> {
-    let rows = read_block(alloc, parts)?;
-    Ok(Answer::done(block_text(alloc, &rows)?, Status::Done))
+    let (encoding, rows) = read_any_block(alloc, parts)?;
+    let text = block_text(alloc, encoding, &rows)?;
+    Ok(Answer::done(text, Status::Done))
 }
 
 /// Prints what the block in a folder holds.

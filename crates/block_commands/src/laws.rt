@@ -13,6 +13,7 @@ ghost use Rattle.head_resolver.specs.Taken.{taken_of};
 ghost use Rattle.head_core.specs.Content.{AreAlike, Content};
 ghost use Rattle.head_core.specs.Validity.{HaveFates};
 ghost use Rattle.head_serial.specs.Replays.{IsReplayed};
+ghost use Rattle.block_files.specs.declared.encoding.Encoding.{Encoding};
 ghost use Rattle.block_text.specs.Sums.{Text};
 ghost use Rattle.block_read.specs.declared.block.Block.{Block as Parts};
 ghost use Rattle.block_read.specs.Blocks.{IsBlockOf};
@@ -29,13 +30,14 @@ use wal_record::valid_records;
 ///
 /// `replay` ensures `IsReplayed` of its head, which speaks of the log's files and of the least valid time alone. With each least valid time
 /// a log has one such head, up to what the views of a head show, and one damage (`head`): those of `replay_serial_from`. What `cut` ensures
-/// of a block of such a head makes it the block of the log (`block`), and there is one such block for an hour and a name (`one`).
+/// of a block of such a head makes it the block of the log (`block`), and there is one such block for an encoding of chunks, an hour and a
+/// name (`one`).
 pub fn however_dealt()
     ensures head { (log : Files) (m : ℤ) (damage other : Option LogDamage) (a b : Content) → IsReplayed log m damage a → IsReplayed log m other b → (damage ≡ other) × AreAlike a b }
-    ensures block { (log : Files) (m hour : ℤ) (ulid : Text) (damage : Option LogDamage) (content : Content) (block : Parts) →
-        IsReplayed log m damage content → IsBlockOf block (record { ulid = ulid; hour = hour; rows = rows_of hour content }) →
-        IsBlockOfLog log m hour ulid block }
-    ensures one { (log : Files) (m hour : ℤ) (ulid : Text) (a b : Parts) → IsBlockOfLog log m hour ulid a → IsBlockOfLog log m hour ulid b → a ≡ b }
+    ensures block { (encoding : Encoding) (log : Files) (m hour : ℤ) (ulid : Text) (damage : Option LogDamage) (content : Content) (block : Parts) →
+        IsReplayed log m damage content → IsBlockOf encoding block (record { ulid = ulid; hour = hour; rows = rows_of hour content }) →
+        IsBlockOfLog encoding log m hour ulid block }
+    ensures one { (encoding : Encoding) (log : Files) (m hour : ℤ) (ulid : Text) (a b : Parts) → IsBlockOfLog encoding log m hour ulid a → IsBlockOfLog encoding log m hour ulid b → a ≡ b }
 {
     // laws that the proof uses
     one_reading();

@@ -7,6 +7,7 @@ mod commands;
 mod cutting;
 mod fault;
 mod laws;
+mod names;
 mod parts;
 mod ranges;
 mod report;
@@ -14,6 +15,7 @@ mod writing;
 
 pub use commands::carry_out_block;
 pub use laws::{checkpoint_equivalence, however_dealt, no_limit};
+pub use names::new_name;
 pub use parts::read_parts;
 pub use prom_store::{BlockRequest, CutRequest};
 pub use writing::write_block;

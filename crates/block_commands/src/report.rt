@@ -4,7 +4,7 @@ ghost use Rattle.std.specs.Prelude.{◌≡◌, ◌++◌, IfOk, OnOk, string_byte
 ghost use Rattle.std.specs.List.{flat_map};
 ghost use Rattle.block_commands.specs.Printed.{range_line};
 
-use block_read::BlockRows;
+use block_read::{BlockRows, Encoding};
 use head_column::Hour;
 use prom_figures::{BlockCounts, counts_of, ends};
 use std::alloc::{AllocError, Global};
@@ -36,12 +36,20 @@ pub fn push_counts(text: &mut String, counts: &BlockCounts) -> Result<(), AllocE
     Ok(())
 }
 
-/// Returns lines for what a block holds: its name, its hour, its samples, series and chunks, and its runs of hidden times.
-pub fn block_text(alloc: Global, block: &BlockRows) -> Result<String, AllocError> {
+/// Returns lines for what a block holds: its name, its hour, its samples, series and chunks, its runs of hidden times, and the encoding of
+/// its chunks if they are XOR chunks.
+pub fn block_text(
+    alloc: Global,
+    encoding: Encoding,
+    block: &BlockRows,
+) -> Result<String, AllocError> {
     let counts = counts_of(block.rows.as_slice());
     let (start, end) = ends(block.hour);
     let mut text = format!(in alloc; "ulid {}\nrange {start} {end}\n", block.ulid)?;
     push_counts(&mut text, &counts)?;
     writeln!(text, "hidden {}", counts.hidden)?;
+    if encoding == Encoding::Xor {
+        text.push_str("encoding xor\n")?;
+    }
     Ok(text)
 }

@@ -82,7 +82,7 @@ CheckpointOutlasts request files calls later WentWell =
 abbrev pub CutOutlasts : CutRequest → List FileAt → List Call → List FileAt → Type 0 → Type 0
 CutOutlasts request files calls later WentWell =
     (MakesNone files calls later × (WentWell → ⊥))
-    ⊎ ((log : Files) × (block : Block) × IsLogIn (shown (standing_in files)) request.dir.now log × IsBlockOfLog log request.options.min_valid request.hour request.ulid.now block
+    ⊎ ((log : Files) × (block : Block) × IsLogIn (shown (standing_in files)) request.dir.now log × IsBlockOfLog request.encoding log request.options.min_valid request.hour request.ulid.now block
     × IsFreeForBlock (shown (standing_in files)) request.out.now request.ulid.now
     × Outlasts files calls later (LeavesOldOrBlock request.out.now request.ulid.now block) (LeavesBlock request.out.now request.ulid.now block) WentWell)
 

@@ -9,7 +9,7 @@ use live_commands::AppendRequest;
 use prom_commands::{Meter, Progress, Request, carry_out};
 use prom_figures::Extent;
 use prom_line::Asked;
-use prom_store::{AnalyzeRequest, DumpRequest, StoreFault};
+use prom_store::{AnalyzeRequest, DumpRequest, Encoding, StoreFault};
 use std::alloc::Global;
 use std::cell::{Cell, RefCell};
 use std::fmt::{Debug, Display};
@@ -301,7 +301,9 @@ const REPLAYS: &[Asked<'static>] = &[
         dir: "log",
         hour: 0,
         ulid: ULID,
+        is_made: false,
         out: "out",
+        encoding: Encoding::Raw,
         options: BY_THREE,
     })),
     Asked::Append(AppendRequest {

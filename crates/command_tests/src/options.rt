@@ -7,7 +7,7 @@ use head_replay::Options;
 use live_commands::{AppendRequest, CheckpointRequest};
 use prom_commands::Request;
 use prom_line::{Asked, CommandLine, parse};
-use prom_store::{AnalyzeRequest, DumpRequest, Fault, UnpackRequest};
+use prom_store::{AnalyzeRequest, DumpRequest, Encoding, Fault, UnpackRequest};
 use std::alloc::{AllocError, Global};
 use std::process::Abort;
 
@@ -110,7 +110,33 @@ const OF_EACH: &[(&str, Asked<'static>)] = &[
             dir: "log",
             hour: -1,
             ulid: "01ARZ3NDEKTSV4RRFFQ69G5FAV",
+            is_made: false,
             out: "out",
+            encoding: Encoding::Raw,
+            options: SEVEN,
+        })),
+    ),
+    (
+        "cut log --xor --hour 2 --ulid=01ARZ3NDEKTSV4RRFFQ69G5FAV --out=out",
+        Asked::OfBlocks(BlockRequest::Cut(CutRequest {
+            dir: "log",
+            hour: 2,
+            ulid: "01ARZ3NDEKTSV4RRFFQ69G5FAV",
+            is_made: false,
+            out: "out",
+            encoding: Encoding::Xor,
+            options: SEVEN,
+        })),
+    ),
+    (
+        "cut log --hour 2 --out=out --xor",
+        Asked::OfBlocks(BlockRequest::Cut(CutRequest {
+            dir: "log",
+            hour: 2,
+            ulid: "",
+            is_made: true,
+            out: "out",
+            encoding: Encoding::Xor,
             options: SEVEN,
         })),
     ),

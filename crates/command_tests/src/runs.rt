@@ -8,7 +8,7 @@ use head_replay::Options;
 use live_commands::{AppendRequest, CheckpointRequest, carry_out_append, carry_out_checkpoint};
 use prom_commands::{Answer, Progress, carry_out};
 use prom_line::Asked;
-use prom_store::{AnalyzeRequest, DumpRequest, Store, StoreFault, UnpackRequest};
+use prom_store::{AnalyzeRequest, DumpRequest, Encoding, Store, StoreFault, UnpackRequest};
 use query_commands::{carry_out_analyze, carry_out_dump};
 use std::alloc::{AllocError, Global};
 use std::sync::Wait;
@@ -127,7 +127,9 @@ pub const CUT: Case = Case {
         dir: "log",
         hour: 0,
         ulid: ULID,
+        is_made: false,
         out: "out",
+        encoding: Encoding::Raw,
         options: ANY,
     })),
     dir: "out",

@@ -6,7 +6,7 @@ ghost use Rattle.head_column.specs.declared.chunk.Chunk.{Chunk as ChunkOfRow};
 ghost use Rattle.block_files.specs.Files.{longest_chunk};
 
 use crate::cases::{Case, check, shown};
-use block_files::{ChunkFiles, chunk_at, write_chunks};
+use block_files::{ChunkFiles, Encoding, chunk_at, write_chunks};
 use block_text::WriteFault;
 use head_column::{Chunk, Sample, decode_chunk};
 use hw_bytes::{Items, crc32c};
@@ -56,7 +56,7 @@ fn rows_of(alloc: Global, rows: &[Row]) -> Result<Vec<Items<Chunk>>, AllocError>
 fn is_short(row: &[Chunk]) -> bool
     ensures { IsTrue result ↔ All (λ (c : ChunkOfRow). length c.text ≤ longest_chunk) row.now }
 {
-    row.iter().all(|chunk| chunk.text.len() <= 2162)
+    row.iter().all(|chunk| chunk.text.len() <= 2180)
 }
 
 fn are_short(rows: &[Items<Chunk>]) -> bool
@@ -92,7 +92,7 @@ fn add_row(alloc: Global, files: &mut ChunkFiles, row: &[Chunk]) -> Result<Items
 
 // Puts the rows behind one another, one by one.
 fn write_each(alloc: Global, limit: u32, rows: &[Items<Chunk>]) -> Result<Written, WriteFault> {
-    let mut files = ChunkFiles::new(alloc, limit);
+    let mut files = ChunkFiles::new(alloc, Encoding::Raw, limit);
     let mut references = Vec::new(alloc);
     for row in rows {
         references.push(add_row(alloc, &mut files, row.as_slice())?)?;
@@ -209,7 +209,8 @@ impl Case for At {
             return Err(AllocError);
         };
         match chunk_at(&files, self.0) {
-            Some(data) => data_text(alloc, data),
+            Some((Encoding::Raw, data)) => data_text(alloc, data),
+            Some((Encoding::Xor, _)) => String::from_str(alloc, "xor"),
             None => String::from_str(alloc, "none"),
         }
     }

@@ -8,8 +8,8 @@ use std::fmt;
 /// The number of samples of a chunk. The last chunk of an hour may have fewer.
 pub const CHUNK_SAMPLES: usize = 120;
 
-/// A chunk: samples of one series in the order of their times, encoded. A chunk of a block (chunks.md) has this data in a form
-/// of this project.
+/// A chunk: samples of one series in the order of their times, encoded. The data of a chunk of a block (chunks.md) are in a form of this
+/// project, as `encode_chunk` encodes them, or in a server's own.
 #[derive(Debug, Drop)]
 pub struct Chunk {
     /// The time of the first sample, in milliseconds.
@@ -18,7 +18,7 @@ pub struct Chunk {
     pub max_time: i64,
     /// The number of samples, 1 to 120.
     pub count: usize,
-    /// The samples, as `encode_chunk` encodes them.
+    /// The samples, encoded.
     pub text: Items<u8>,
 }
 

@@ -2,6 +2,7 @@
 //! a checkpoint of it, or writes it anew without compression.
 #![tactic(auto)]
 
+mod naming;
 mod program;
 
 use crate::program::run;
@@ -10,6 +11,7 @@ use prom_store::{Disk, LineFault, Status, Store};
 use std::env;
 use std::io::{ErrorKind, IsTerminal};
 use std::process::ExitCode;
+use std::random::RandomSource;
 use std::rt::Env;
 use std::sync::Wait;
 use std::thread::Threads;
@@ -57,12 +59,15 @@ fn show<R: Print + Eprint>(rt: &R, answer: &Answer, is_terminal: bool) -> Status
 }
 
 // Runs the program over a store. `is_terminal` says whether standard error is a terminal, and `bars` whether standard output is one.
-fn run_here<R: Env + Clock + Eprint + AllocGlobal + Threads + Wait + Sync + Drop, S: Store>(
+fn run_here<R, S: Store>(
     rt: &R,
     store: &mut S,
     is_terminal: bool,
     bars: bool,
-) -> Result<Answer, LineFault> {
+) -> Result<Answer, LineFault>
+where
+    R: Env + Clock + RandomSource + Eprint + AllocGlobal + Threads + Wait + Sync + Drop,
+{
     let words = arguments(rt)?;
     run(rt, store, &Meter::new(rt, is_terminal), &words, bars)
 }

@@ -4,6 +4,7 @@ ghost use Rattle.std.specs.Prelude.{IfOk};
 ghost use Rattle.prom_store.specs.Views.{view_of};
 ghost use Rattle.prom_head.specs.Asking.{IsAskedIn};
 
+use crate::naming::name_of;
 use block_commands::carry_out_block;
 use live_commands::{carry_out_append, carry_out_checkpoint};
 use prom_commands::{Answer, Progress, carry_out};
@@ -13,8 +14,10 @@ use prom_store::{AnalyzeRequest, Fault, LineFault, Status, Store};
 use query_commands::{carry_out_analyze, carry_out_dump};
 use server_blocks::min_valid_of;
 use std::alloc::Global;
+use std::random::RandomSource;
 use std::sync::Wait;
 use std::thread::Threads;
+use std::time::Clock;
 use survey_commands::carry_out_inspect;
 use unpack_commands::carry_out_unpack;
 
@@ -73,18 +76,47 @@ fn carried_out_in<R: AllocGlobal + Threads + Wait + Sync, S: Store, P: Progress 
     }
 }
 
+// Carries out what a command line asks for, with a name that is made for the block where one is wanted. Where the system gives no time or no
+// random bits, the block has no name, and `cut` refuses it.
+fn carried_out_by_name<R, S: Store, P: Progress + Sync>(
+    rt: &R,
+    store: &mut S,
+    progress: &P,
+    line: CommandLine<'_>,
+    bars: bool,
+) -> Result<Answer, LineFault>
+where
+    R: AllocGlobal + Clock + RandomSource + Threads + Wait + Sync,
+{
+    if !line.asked.lacks_name() {
+        return Ok(carried_out_in(rt, store, progress, line, bars));
+    }
+    let name = match name_of(rt, rt.alloc())? {
+        Some(name) => name,
+        None => String::new(rt.alloc()),
+    };
+    let line = CommandLine {
+        asked: line.asked.named(&name),
+        ..line
+    };
+    Ok(carried_out_in(rt, store, progress, line, bars))
+}
+
 /// Runs the program over a store. The first word is the program's name. `progress` hears how far a replay is. `bars` says whether shares
 /// are also printed as bars. Where the words are refused, the store is not called.
-pub fn run<R: AllocGlobal + Threads + Wait + Sync, S: Store, P: Progress + Sync>(
+pub fn run<R, S: Store, P: Progress + Sync>(
     rt: &R,
     store: &mut S,
     progress: &P,
     words: &[String],
     bars: bool,
-) -> Result<Answer, LineFault> {
+) -> Result<Answer, LineFault>
+where
+    R: AllocGlobal + Clock + RandomSource + Threads + Wait + Sync,
+{
     let alloc = rt.alloc();
     match parse(alloc, words) {
-        Ok(line) => Ok(carried_out_in(rt, store, progress, line, bars)),
+        Ok(line) => carried_out_by_name(rt, store, progress, line, bars),
         Err(error) if error.use_stderr() => Err(LineFault::from(error)),
         Err(help) => Ok(Answer::done(help.to_string(alloc)?, Status::Done)),
     }

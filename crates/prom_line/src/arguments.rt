@@ -127,12 +127,16 @@ pub(crate) fn hour<'a>(alloc: Global) -> Arg<'a> {
         .required(true)
 }
 
-pub(crate) fn ulid<'a>(alloc: Global) -> Arg<'a> {
+pub(crate) fn ulid<'a>(alloc: Global) -> Result<Arg<'a>, AllocError> {
     Arg::new(alloc, "ulid")
         .long("ulid")
         .value_name("U")
-        .help("The name of the block, a ULID")
-        .required(true)
+        .help("The name of the block, a ULID; with --xor, one is made if it is left out")
+        .required_unless_present("xor")
+}
+
+pub(crate) fn xor<'a>(alloc: Global) -> Arg<'a> {
+    flag(alloc, "xor").help("Write XOR chunks, as a server does, so that it opens the block")
 }
 
 pub(crate) fn out<'a>(alloc: Global) -> Arg<'a> {

@@ -6,7 +6,7 @@ use clap::{ArgMatches, Command, Error};
 use head_replay::Options;
 use prom_store::{
     AnalyzeRequest, AppendRequest, BlockRequest, CheckpointRequest, CutRequest, DumpRequest,
-    InspectRequest, Request, UnpackRequest,
+    Encoding, InspectRequest, Request, UnpackRequest,
 };
 use std::alloc::Global;
 
@@ -100,19 +100,36 @@ fn of_dump<'a>(of: &ArgMatches<'a>) -> Option<DumpRequest<'a>> {
     })
 }
 
+// Returns the encoding of a block's chunks.
+fn encoding(of: &ArgMatches<'_>) -> Encoding {
+    if of.get_flag("xor") {
+        Encoding::Xor
+    } else {
+        Encoding::Raw
+    }
+}
+
+// Where no name is given, the caller makes one.
+fn of_cut<'a>(of: &ArgMatches<'a>) -> Option<CutRequest<'a>> {
+    let name = of.get_str("ulid");
+    Some(CutRequest {
+        dir: of.get_str("dir")?,
+        hour: of.get_one("hour")?,
+        ulid: name.unwrap_or(""),
+        is_made: name.is_none(),
+        out: of.get_str("out")?,
+        encoding: encoding(of),
+        options: options(of)?,
+    })
+}
+
 fn of_blocks<'a>(matches: &ArgMatches<'a>) -> Option<BlockRequest<'a>> {
     match matches.subcommand()? {
         ("ranges", of) => Some(BlockRequest::Ranges {
             dir: of.get_str("dir")?,
             options: options(of)?,
         }),
-        ("cut", of) => Some(BlockRequest::Cut(CutRequest {
-            dir: of.get_str("dir")?,
-            hour: of.get_one("hour")?,
-            ulid: of.get_str("ulid")?,
-            out: of.get_str("out")?,
-            options: options(of)?,
-        })),
+        ("cut", of) => Some(BlockRequest::Cut(of_cut(of)?)),
         ("block", of) => Some(BlockRequest::Block {
             path: of.get_str("path")?,
         }),

@@ -81,8 +81,8 @@ fn ranges<'a>(alloc: Global) -> Result<Command<'a>, AllocError> {
 fn cut<'a>(alloc: Global) -> Result<Command<'a>, AllocError> {
     let about = "Cuts an hour of the log into a block";
     let command = on_log(alloc, "cut", about, texts::CUT);
-    let command = also(also(command, hour(alloc)), ulid(alloc));
-    replaying(alloc, also(command, out(alloc)))
+    let command = also(also(command, hour(alloc)), ulid(alloc)?);
+    replaying(alloc, also(also(command, out(alloc)), xor(alloc)))
 }
 
 fn block<'a>(alloc: Global) -> Result<Command<'a>, AllocError> {

@@ -5,6 +5,7 @@ mod arguments;
 mod asked;
 mod commands;
 mod least;
+mod naming;
 mod texts;
 
 pub use asked::{Asked, CommandLine, parse};

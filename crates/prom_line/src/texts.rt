@@ -115,8 +115,12 @@ pub(crate) const CUT: &str = "\
 Writes the folder OUT/U, and nothing else. The log stays as it is. A crash leaves no half block:
 what was not finished stays as OUT/U.tmp, and you may remove it.
 
+Without --xor only this program reads the chunks of the block. With --xor a server opens it, and
+answers queries from it: OUT is then its data directory, or the folder is moved there.
+
 Example:
   prom_head cut wal --hour 472222 --ulid 01ARZ3NDEKTSV4RRFFQ69G5FAV --out blocks
+  prom_head cut wal --hour 472222 --xor --out /var/lib/prometheus/metrics2
 
 Exit status:
   0  the block is on the device

@@ -13,6 +13,7 @@ mod shown;
 mod store;
 mod whole;
 
+pub use block_read::Encoding;
 pub use damage::{DamageLine, FileNumber, kind_of_file};
 pub use disk::{Disk, names_of};
 pub use fault::{Cause, Fault, NumberGap, Status};

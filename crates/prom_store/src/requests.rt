@@ -1,5 +1,6 @@
 //! Requests to the program.
 
+use block_read::Encoding;
 use head_replay::Options;
 
 /// A request that reads a log.
@@ -39,7 +40,11 @@ pub struct CutRequest<'a> {
     pub dir: &'a str,
     pub hour: i64,
     pub ulid: &'a str,
+    /// Whether the name was made for this block, and not given: then it is printed.
+    pub is_made: bool,
     pub out: &'a str,
+    /// The encoding of the block's chunks.
+    pub encoding: Encoding,
     pub options: Options,
 }
 

@@ -9,5 +9,5 @@ returns g c =
     let block = c.in_ok-block.block in
     let request = c.args.request in
     let made = c.in_ok-block.ensures.block in
-    let is : IsBlockOfLog log request.options.min_valid request.hour c.in-Ok.ulid block = search (rules, to_z-of_z, made) in
-    record { crash = inr (log, block, c.in_ok-log.ensures, subst (λ ulid. IsBlockOfLog log request.options.min_valid request.hour ulid block) c.in-Ok.ensures.some is, c.put_block.ensures.crash) }
+    let is : IsBlockOfLog request.encoding log request.options.min_valid request.hour c.in-Ok.ulid block = search (rules, to_z-of_z, made) in
+    record { crash = inr (log, block, c.in_ok-log.ensures, subst (λ ulid. IsBlockOfLog request.encoding log request.options.min_valid request.hour ulid block) c.in-Ok.ensures.some is, c.put_block.ensures.crash) }

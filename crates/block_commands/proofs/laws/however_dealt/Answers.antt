@@ -12,7 +12,7 @@ returns-clause-head c = λ log m damage other a b x y.
     (same.1, c.one_content.ensures (taken_of m (contents x.placed)) a b x.content content (y.min_valid ∙ sym x.min_valid))
 
 pub returns-clause-block : goal.returns-clause-block
-returns-clause-block c = λ log m hour ulid damage content block x is. c.one_block.ensures.made log m hour ulid x.placed damage content block x.reading x.content x.min_valid is
+returns-clause-block c = λ encoding log m hour ulid damage content block x is. c.one_block.ensures.made encoding log m hour ulid x.placed damage content block x.reading x.content x.min_valid is
 
 pub returns-clause-one : goal.returns-clause-one
 returns-clause-one c = c.one_block.ensures.one
