@@ -12,6 +12,6 @@ mod laws;
 mod reading;
 
 pub use clearing::{Cleared, clear_file};
-pub use fragment::FragmentMark;
+pub use fragment::{FragmentMark, fragment_at};
 pub use laws::{one_packed_file, same_reading, some_packed_file};
 pub use reading::{PackedPiece, PackedPieces, Packing, read_packed_file};

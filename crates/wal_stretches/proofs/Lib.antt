@@ -1,0 +1,17 @@
+pub mod WalkFaults
+pub mod WalkZeros
+pub mod WalkPlaces
+pub mod WalkForward
+pub mod JoiningMarks
+pub mod JoiningParts
+pub mod JoiningPieces
+pub mod JoiningRuns
+pub mod JoiningEnds
+pub mod JoiningReached
+pub mod LawsPlaces
+pub mod LawsGroups
+pub mod LawsOne
+pub mod LawsPage
+pub mod LawsFirst
+pub mod LawsStretch
+pub mod LawsSome

@@ -1,0 +1,5 @@
+pub mod Places
+pub mod Stretches
+pub mod Values
+pub mod Building
+pub mod Finding
