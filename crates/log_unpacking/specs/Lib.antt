@@ -2,3 +2,4 @@ pub mod Unpacking
 pub mod Taking
 pub mod Same
 pub mod Texts
+pub mod Salvage

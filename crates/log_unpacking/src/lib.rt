@@ -7,11 +7,14 @@
 mod fault;
 mod laws;
 mod pieces;
+mod salvaging;
 mod sinks;
 mod unpacking;
 
-pub use fault::{UnpackDamage, UnpackFault};
-pub use laws::{one_unpacking, same_records};
+pub use fault::{Passed, UnpackDamage, UnpackFault};
+pub use laws::{nothing_less, one_salvage_of_file, one_unpacking, same_records, sound_records};
+pub use salvaging::salvage;
+pub use sinks::RecordSink;
 pub use unpacking::{
     RecordCount, Unpacked, UnpackedRecord, UnpackedText, count_records, unpack_file, unpack_text,
 };
