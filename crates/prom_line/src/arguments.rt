@@ -159,6 +159,12 @@ pub(crate) fn through_damage<'a>(alloc: Global) -> Arg<'a> {
     flag(alloc, "through-damage").help("Of a damaged log, write what is before the damage")
 }
 
+pub(crate) fn past_damage<'a>(alloc: Global) -> Result<Arg<'a>, AllocError> {
+    flag(alloc, "past-damage")
+        .help("Write all that can be read, also what is behind damage")
+        .conflicts_with("through-damage")
+}
+
 pub(crate) fn keep_skipped<'a>(alloc: Global) -> Arg<'a> {
     flag(alloc, "keep-skipped").help("Copy records of types that are not read, as they are")
 }

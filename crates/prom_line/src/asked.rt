@@ -159,6 +159,7 @@ fn of_unpack<'a>(of: &ArgMatches<'a>) -> Option<UnpackRequest<'a>> {
         dir: of.get_str("dir")?,
         out: of.get_str("out")?,
         through_damage: of.get_flag("through-damage"),
+        past_damage: of.get_flag("past-damage"),
     })
 }
 

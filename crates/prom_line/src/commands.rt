@@ -106,7 +106,8 @@ fn checkpoint<'a>(alloc: Global) -> Result<Command<'a>, AllocError> {
 fn unpack<'a>(alloc: Global) -> Result<Command<'a>, AllocError> {
     let about = "Writes the log anew without compression, as the other commands read it";
     let command = on_log(alloc, "unpack", about, texts::UNPACK);
-    also(also(command, new_log(alloc)), through_damage(alloc))
+    let command = also(also(command, new_log(alloc)), through_damage(alloc));
+    also(command, past_damage(alloc)?)
 }
 
 // Adds a subcommand. It is the one place where an unfinished command is dropped, which is dear to prove.

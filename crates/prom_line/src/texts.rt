@@ -46,12 +46,18 @@ A server compresses its log by default. Writes the directory OUT, and nothing el
 the log under its own number, with the same records, none of them compressed. A crash leaves no
 half log: what was not finished stays as OUT.tmp, and you may remove it.
 
-Example:
+With --past-damage OUT is a sound log of all that can be read of a damaged one: behind damage too,
+with an empty segment for each one that is missing, and of a file that cannot be read the rest of
+it. A line for each tells what was passed over, and where.
+
+Examples:
   prom_head unpack /var/lib/prometheus/metrics2/wal --out wal
+  prom_head unpack damaged/wal --out wal --past-damage
 
 Exit status:
   0  the log is on the device
-  1  the log is damaged: nothing was written, or, with --through-damage, what is before the damage
+  1  the log is damaged: nothing was written, or, with --through-damage, what is before the damage,
+     or, with --past-damage, all that can be read
   2  the command line is wrong
   3  a file cannot be read or written
   4  out of memory";

@@ -5,12 +5,13 @@ ghost use Rattle.std.specs.Iterator.{Drains, IsFinite};
 ghost use Rattle.std.specs.Fs.{dir_entry_name};
 ghost use Rattle.prom_store.specs.Entries.{Gives};
 
+use crate::part::read_pages;
 use crate::reason::Reason;
 use crate::several::{ReadFile, read_several};
-use crate::store::{Store, StoreFault};
+use crate::store::{PartRead, Store, StoreFault};
 use crate::whole::{read_whole, write_whole};
 use hash_seed::HashSeed;
-use std::alloc::Global;
+use std::alloc::{AllocError, Global};
 use std::fs::{DirEntry, File, OpenFile};
 use std::os::unix::fs::FileExt;
 use std::random::RandomSource;
@@ -195,6 +196,27 @@ impl ReadFile for There {
     }
 }
 
+// Reads what is at a path page by page, since it was refused as a whole for this reason. What cannot be opened has only its length, if the
+// system tells it.
+fn read_by_pages(
+    host: HostRuntime,
+    alloc: Global,
+    path: &str,
+    reason: Reason,
+) -> Result<PartRead, AllocError> {
+    if check_file(host, path).is_err() {
+        return PartRead::nothing(alloc, 0, reason);
+    }
+    let length = match fs::metadata(&host, path) {
+        Ok(metadata) => metadata.len(),
+        Err(_) => 0,
+    };
+    match File::open(&host, path) {
+        Ok(file) => read_pages(alloc, &file, length),
+        Err(_) => PartRead::nothing(alloc, length, reason),
+    }
+}
+
 impl<R: Threads> Store for Disk<'_, R> {
     type Writer = File;
 
@@ -217,6 +239,18 @@ impl<R: Threads> Store for Disk<'_, R> {
 
     fn read(&self, path: &str) -> Result<Vec<u8>, StoreFault> {
         read_by(self.rt, self.host, MOST_PARTS, path)
+    }
+
+    fn read_in_part(&self, alloc: Global, path: &str) -> Result<PartRead, AllocError> {
+        let read = match check_file(self.host, path) {
+            Ok(()) => self.read(path),
+            Err(fault) => Err(fault),
+        };
+        match read {
+            Ok(bytes) => Ok(PartRead::whole(alloc, bytes)),
+            Err(StoreFault::OutOfMemory) => Err(AllocError),
+            Err(StoreFault::Refused(reason)) => read_by_pages(self.host, alloc, path, reason),
+        }
     }
 
     fn read_files(

@@ -5,6 +5,7 @@ mod damage;
 mod disk;
 mod fault;
 mod line;
+mod part;
 mod paths;
 mod reason;
 mod requests;
@@ -25,5 +26,5 @@ pub use requests::{
     InspectRequest, Request, UnpackRequest,
 };
 pub use several::{ReadFile, read_several};
-pub use store::{Store, StoreFault};
+pub use store::{PartRead, Store, StoreFault, Unread};
 pub use whole::{read_whole, write_whole};

@@ -113,4 +113,6 @@ pub struct UnpackRequest<'a> {
     pub out: &'a str,
     /// Whether the records before the first damage are written, if the log is damaged.
     pub through_damage: bool,
+    /// Whether all that can be read is written, also what is behind damage.
+    pub past_damage: bool,
 }

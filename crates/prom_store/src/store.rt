@@ -1,6 +1,6 @@
 //! What the program asks of a file system.
 
-ghost use Rattle.std.specs.Prelude.{◌≡◌, ◌↔◌, ℕ, ◌<◌, List, [], ◌++◌, IfErr, IfOk, length, map, string_bytes};
+ghost use Rattle.std.specs.Prelude.{◌≡◌, ◌≢◌, ◌↔◌, ℕ, ◌<◌, List, [], ◌++◌, IfErr, IfOk, length, map, string_bytes};
 ghost use Rattle.std.specs.List.{AllZip};
 ghost use Rattle.std.specs.IoError.{error_kind};
 ghost use Rattle.std.specs.declared.io.ErrorKind.TheVariants as kind;
@@ -49,6 +49,52 @@ impl<T: Drop> From<AllocFailed<T>> for StoreFault {
     }
 }
 
+/// Bytes of a file that cannot be read: the offset of the first, how many there are, and why.
+#[derive(Clone, Copy, Debug, PartialEq, Eq)]
+pub struct Unread {
+    pub offset: u64,
+    /// How many bytes it is. 0 where a file cannot be read at all, and its length is not known.
+    pub bytes: u64,
+    pub reason: Reason,
+}
+
+/// The bytes of a file, as far as they can be read. In the place of those that cannot there are zeros.
+#[derive(Debug, Drop)]
+pub struct PartRead {
+    pub bytes: Vec<u8>,
+    /// What cannot be read, in order.
+    pub unread: Vec<Unread>,
+}
+
+impl PartRead {
+    /// Makes the bytes of a file of which all was read.
+    pub(crate) fn whole(alloc: Global, bytes: Vec<u8>) -> PartRead
+        ensures bytes { result.bytes.items ≡ bytes.items }
+        ensures unread { result.unread.items ≡ [] }
+    {
+        PartRead {
+            bytes,
+            unread: Vec::new(alloc),
+        }
+    }
+
+    /// Makes the bytes of a file of this length that cannot be read at all. None are kept in their place.
+    pub(crate) fn nothing(alloc: Global, bytes: u64, reason: Reason) -> Result<PartRead, AllocError>
+        ensures { IfOk result (λ part. part.unread.items ≢ []) }
+    {
+        let mut unread = Vec::new(alloc);
+        unread.push(Unread {
+            offset: 0,
+            bytes,
+            reason,
+        })?;
+        Ok(PartRead {
+            bytes: Vec::new(alloc),
+            unread,
+        })
+    }
+}
+
 /// Directories and files. Its calls have the names of `std::fs`. What a call that changes them did is told by `did`, a relation between two
 /// states of the store, and what a call that reads them found by `holds`: a store over real files knows nothing of either, and code over any
 /// store claims only calls that it made and what these gave.
@@ -93,6 +139,17 @@ pub trait Store {
             }
         }
         Ok(files)
+    }
+
+    /// Reads the bytes of a file as far as they can be read. Returns an error if out of memory, and for no other reason.
+    fn read_in_part(&self, alloc: Global, path: &str) -> Result<PartRead, AllocError>
+        ensures { IfOk result (λ part. part.unread.items ≡ [] → holds self.now path.now (Bytes part.bytes.items)) }
+    {
+        match self.read(path) {
+            Ok(bytes) => Ok(PartRead::whole(alloc, bytes)),
+            Err(StoreFault::OutOfMemory) => Err(AllocError),
+            Err(StoreFault::Refused(reason)) => PartRead::nothing(alloc, 0, reason),
+        }
     }
 
     /// Returns the seed of the tables that keep what is read. Without one that nobody knows, it is the seed that all know.
