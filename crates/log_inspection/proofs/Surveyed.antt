@@ -7,8 +7,9 @@ use Rattle.std.proofs.Common.{Global, String}
 use Rattle.std.proofs.lemmas.List.{append-nil, append_assoc, map-append, take_more}
 use Rattle.wal_log.specs.declared.reading.Placed.{Placed}
 use Rattle.wal_log.specs.declared.plan.Named.{Named}
-use Rattle.wal_log.specs.declared.plan.DirPlan.{DirPlan}
-use Rattle.wal_log.specs.Plan.{IsDirPlan, NumberedName, named as name_of}
+use Rattle.log_listing.specs.declared.listing.Listing.{Listing}
+use Rattle.log_listing.specs.Listings.{IsListing}
+use Rattle.wal_log.specs.Plan.{NumberedName, named as name_of}
 use Rattle.prom_store.specs.Views.{View}
 use Rattle.log_inspection.specs.declared.inspection.Inspection.{Inspection}
 use Rattle.std.proofs.lemmas.List.Concat.{flat_map-append}
@@ -16,7 +17,7 @@ use Rattle.hw_bytes.proofs.Lists.{flat_map-push}
 use Rattle.log_references.specs.Unbound.{AreReferencesOf, IsUnboundIn, ReferencesValue}
 use Rattle.log_inspection.specs.declared.files.FileSurvey.{FileSurvey}
 use Rattle.log_inspection.specs.Files.{HasSurveyed, HaveSurveyed, Surveyed, records_of}
-use Rattle.log_inspection.specs.Inspections.{AreCheckpointSurveys, ArePlannedSurveys, AreSurveysIn, IsInspectionIn, IsSurveyIn, is_passed_over, is_wal, is_wbl}
+use Rattle.log_inspection.specs.Inspections.{AreCheckpointSurveys, AreListedSurveys, AreSurveysIn, IsInspectionIn, IsSurveyIn, is_passed_over, is_wal, is_wbl}
 
 -- two lists with one more item each
 AllZip_more : {A B : Type 0} (R : A → B → Type 0) (xs : List A) (ys : List B) (x : A) (y : B) → AllZip R xs ys → R x y → AllZip R (xs ++ x ∷ []) (ys ++ y ∷ [])
@@ -38,9 +39,6 @@ module _ (view : View) (dir : List ℕ) where
   pub none_surveyed : (in_checkpoint : Bool) (figures : List FileSurvey) (old : ReferencesValue) → figures ≡ [] → HaveSurveyed (AreSurveysIn view dir in_checkpoint []) figures old old
   none_surveyed in_checkpoint figures old none = record { surveyed = []; are = tt; each = none; taken = λ m before h. subst (λ (rs : List Placed). AreReferencesOf m rs old) (sym (append-nil before)) h }
 
-  pub no_checkpoint : (figures : List FileSurvey) (old : ReferencesValue) → figures ≡ [] → HaveSurveyed (AreCheckpointSurveys view dir None) figures old old
-  no_checkpoint figures old none = record { surveyed = []; are = refl; each = none; taken = λ m before h. subst (λ (rs : List Placed). AreReferencesOf m rs old) (sym (append-nil before)) h }
-
   -- the next file
   pub more_surveyed : (in_checkpoint : Bool) (names : List Named) (i : ℕ) (d : Named) (figures all : List FileSurvey) (f : FileSurvey) (old mid new : ReferencesValue) → i < length names → all ≡ figures ++ f ∷ []
       → HaveSurveyed (AreSurveysIn view dir in_checkpoint (map name_of (take i names))) figures old mid → HasSurveyed (IsSurveyIn view dir in_checkpoint (name_of (get_or names i d))) f mid new
@@ -59,20 +57,16 @@ module _ (view : View) (dir : List ℕ) where
 
   -- the files of the checkpoint and the segments
   pub both_surveyed : (newest : Option NumberedName) (plan : List NumberedName) (first later all : List FileSurvey) (old mid new : ReferencesValue) → all ≡ first ++ later → HaveSurveyed (AreCheckpointSurveys view dir newest) first old mid
-      → HaveSurveyed (AreSurveysIn view dir false plan) later mid new → HaveSurveyed (ArePlannedSurveys view dir newest plan) all old new
+      → HaveSurveyed (AreSurveysIn view dir false plan) later mid new → HaveSurveyed (AreListedSurveys view dir newest plan) all old new
   both_surveyed newest plan first later all old mid new is a b = record {
     surveyed = a.surveyed ++ b.surveyed;
-    are = record { first = a.surveyed; later = b.surveyed; all = refl; checkpoint = a.are; segments = b.are };
+    are = record { first = a.surveyed; later = b.surveyed; all = refl; checkpoint_files = a.are; segment_files = b.are };
     each = is ∙ ap (λ (fs : List FileSurvey). fs ++ later) a.each ∙ ap (λ (fs : List FileSurvey). map (λ (t : Surveyed). t.figures) a.surveyed ++ fs) b.each ∙ sym (map-append (λ (t : Surveyed). t.figures) a.surveyed b.surveyed);
     taken = λ m records h.
         subst (λ (rs : List Placed). AreReferencesOf m rs new)
         (append_assoc records (records_of a.surveyed) (records_of b.surveyed) ∙ ap (λ (rs : List Placed). records ++ rs) (sym (flat_map-append (λ (t : Surveyed). t.placed) a.surveyed b.surveyed)))
         (b.taken m (records ++ records_of a.surveyed) (a.taken m records h));
   }
-
--- the same files, said otherwise
-pub have_weaker : (P Q : List Surveyed → Type 0) (figures : List FileSurvey) (old new : ReferencesValue) → ((surveyed : List Surveyed) → P surveyed → Q surveyed) → HaveSurveyed P figures old new → HaveSurveyed Q figures old new
-have_weaker P Q figures old new weaker h = record { surveyed = h.surveyed; are = weaker h.surveyed h.are; each = h.each; taken = h.taken }
 
 -- a test of the names of texts
 any_mapped : {A B : Type 0} (p : B → Bool) (h : A → B) (xs : List A) → list_any p (map h xs) ≡ list_any (λ x. p (h x)) xs
@@ -91,18 +85,18 @@ numbers : (named : Option Named) → option_map (λ (n : Named). n.number) named
 numbers None = refl
 numbers (Some named) = refl
 
--- what was surveyed by the plan of a directory is the inspection of its log
-pub inspected : (view : View) (dir : List ℕ) (m : ℤ) (names : List (String Global)) (plan : DirPlan) (i : Inspection) (none kept : ReferencesValue) → view.names dir (map string_bytes names)
-    → IsDirPlan (map string_bytes names) (option_map name_of plan.checkpoint) (map name_of plan.segments) → i.checkpoint ≡ option_map (λ (n : Named). n.number) plan.checkpoint
-    → HaveSurveyed (ArePlannedSurveys view dir (option_map name_of plan.checkpoint) (map name_of plan.segments)) i.files.items none kept → AreReferencesOf m [] none
+-- what was surveyed by the listing of a directory is the inspection of its log
+pub inspected : (view : View) (dir : List ℕ) (m : ℤ) (names : List (String Global)) (listing : Listing) (i : Inspection) (none kept : ReferencesValue) → view.names dir (map string_bytes names)
+    → IsListing (map string_bytes names) (option_map name_of listing.checkpoint) (map name_of listing.segments.items) → i.checkpoint ≡ option_map (λ (n : Named). n.number) listing.checkpoint
+    → HaveSurveyed (AreListedSurveys view dir (option_map name_of listing.checkpoint) (map name_of listing.segments.items)) i.files.items none kept → AreReferencesOf m [] none
     → ((k : ℤ) (placed : List Placed) → AreReferencesOf k placed kept → IsUnboundIn k placed i.unbound) → i.passed_over ≡ count_by (λ name. is_passed_over i.checkpoint (string_bytes name)) names → i.has_wal ≡ list_any (λ name. is_wal (string_bytes name)) names → i.is_wbl ≡ is_wbl dir → IsInspectionIn view dir m i
-inspected view dir m names plan i none kept listed planned checkpoint files empty unbound passed wal wbl = record {
+inspected view dir m names listing i none kept listed are checkpoint files empty unbound passed wal wbl = record {
   names = map string_bytes names;
   listed = listed;
-  newest = option_map name_of plan.checkpoint;
-  plan = map name_of plan.segments;
-  planned = planned;
-  checkpoint = checkpoint ∙ numbers plan.checkpoint;
+  newest = option_map name_of listing.checkpoint;
+  segments = map name_of listing.segments.items;
+  listing = are;
+  checkpoint = checkpoint ∙ numbers listing.checkpoint;
   surveyed = files.surveyed;
   read = files.are;
   files = files.each;

@@ -5,12 +5,13 @@ use Rattle.std.specs.Option.{option_map}
 use Rattle.std.specs.Path.{path_file_name, path_join}
 use Rattle.wal_log.specs.declared.input.Segment.{Segment}
 use Rattle.wal_log.specs.Names.{number_of}
-use Rattle.wal_log.specs.Plan.{IsDirPlan, IsPlan, NumberedName}
+use Rattle.wal_log.specs.Plan.{NumberedName}
 use Rattle.log_references.specs.Unbound.{IsUnboundIn}
 use Rattle.prom_store.specs.Views.{View}
-use Rattle.prom_commands.specs.Directory.{IsFileIn}
+use Rattle.prom_store.specs.declared.store.Unread.{Unread}
+use Rattle.log_listing.specs.Listings.{AreListed, IsListing, IsReadIn}
 use Rattle.log_inspection.specs.declared.inspection.Inspection.{Inspection}
-use Rattle.log_inspection.specs.Files.{IsFileSurvey, Surveyed, records_of}
+use Rattle.log_inspection.specs.Files.{AreFigures, Surveyed, records_of}
 
 -- whether the name is `wal`
 abbrev pub is_wal : List ℕ → Bool
@@ -33,34 +34,34 @@ abbrev pub is_passed_over : Option ℕ → List ℕ → Bool
 is_passed_over None name = false
 is_passed_over (Some checkpoint) name = is_at_most checkpoint (number_of name)
 
--- the survey of the planned file of a directory
+-- the survey of the listed file of a directory, as far as it can be read
 abbrev pub IsSurveyIn : View → List ℕ → Bool → NumberedName → Surveyed → Type 0
-IsSurveyIn view dir in_checkpoint planned s = (file : Segment) × IsFileIn view dir planned file × IsFileSurvey (record { in_checkpoint = in_checkpoint; segment = file }) s
+IsSurveyIn view dir in_checkpoint listed s = (file : Segment) × (unread : List Unread) × IsReadIn view dir listed file unread × AreFigures in_checkpoint file unread s
 
--- the surveys of the planned files of a directory, in order
+-- the surveys of the listed files of a directory, in order
 abbrev pub AreSurveysIn : View → List ℕ → Bool → List NumberedName → List Surveyed → Type 0
-AreSurveysIn view dir in_checkpoint plan files = AllZip (IsSurveyIn view dir in_checkpoint) plan files
+AreSurveysIn view dir in_checkpoint listed files = AllZip (IsSurveyIn view dir in_checkpoint) listed files
 
 -- The surveys of the files of a checkpoint, which is the directory.
 pub record AreFolderSurveys (view : View) (dir : List ℕ) (files : List Surveyed) : Type 0 where
   pub names : List (List ℕ)
   pub listed : view.names dir names
-  pub plan : List NumberedName
-  pub planned : IsPlan None names plan
-  pub each : AreSurveysIn view dir true plan files
+  pub inner : List NumberedName
+  pub are : AreListed None names inner
+  pub each : AreSurveysIn view dir true inner files
 
--- the surveys of the files of the planned checkpoint of a directory, if there is one
+-- the surveys of the files of the listed checkpoint of a directory, if there is one
 abbrev pub AreCheckpointSurveys : View → List ℕ → Option NumberedName → List Surveyed → Type 0
 AreCheckpointSurveys view dir None files = files ≡ []
-AreCheckpointSurveys view dir (Some planned) files = AreFolderSurveys view (path_join dir planned.name) files
+AreCheckpointSurveys view dir (Some listed) files = AreFolderSurveys view (path_join dir listed.name) files
 
--- The surveys of the files of the planned checkpoint, then those of the planned segments.
-pub record ArePlannedSurveys (view : View) (dir : List ℕ) (newest : Option NumberedName) (plan : List NumberedName) (files : List Surveyed) : Type 0 where
+-- The surveys of the files of the listed checkpoint, then those of the listed segments.
+pub record AreListedSurveys (view : View) (dir : List ℕ) (newest : Option NumberedName) (segments : List NumberedName) (files : List Surveyed) : Type 0 where
   pub first : List Surveyed
   pub later : List Surveyed
   pub all : files ≡ first ++ later
-  pub checkpoint : AreCheckpointSurveys view dir newest first
-  pub segments : AreSurveysIn view dir false plan later
+  pub checkpoint_files : AreCheckpointSurveys view dir newest first
+  pub segment_files : AreSurveysIn view dir false segments later
 
 -- The inspection of the log in a directory with the least valid time m: the surveys of the files of its newest checkpoint, then of the
 -- segments past it, and the references of samples from m on that are unbound in the records of all these files.
@@ -68,11 +69,11 @@ pub record IsInspectionIn (view : View) (dir : List ℕ) (m : ℤ) (i : Inspecti
   pub names : List (List ℕ)
   pub listed : view.names dir names
   pub newest : Option NumberedName
-  pub plan : List NumberedName
-  pub planned : IsDirPlan names newest plan
+  pub segments : List NumberedName
+  pub listing : IsListing names newest segments
   pub checkpoint : i.checkpoint ≡ option_map (λ c. c.number) newest
   pub surveyed : List Surveyed
-  pub read : ArePlannedSurveys view dir newest plan surveyed
+  pub read : AreListedSurveys view dir newest segments surveyed
   pub files : i.files.items ≡ map (λ s. s.figures) surveyed
   pub unbound : IsUnboundIn m (records_of surveyed) i.unbound
   pub passed : i.passed_over ≡ count_by (is_passed_over i.checkpoint) names

@@ -3,15 +3,14 @@
 ghost use Rattle.std.specs.Prelude.{◌≡◌, IfOk, length};
 ghost use Rattle.wal_page.specs.File.{pages_of};
 ghost use Rattle.wal_page.specs.Page.{is_pad};
-ghost use Rattle.log_inspection.specs.Files.{HasSurveyed, IsFileSurvey, TellsUnpacked, has_zeros_alone, is_compressed as ends_compressed};
+ghost use Rattle.log_inspection.specs.Files.{AreFigures, HasSurveyed, has_zeros_alone};
 
+use log_listing::PartFile;
 use log_references::References;
 use log_survey::{Survey, survey};
-use log_unpacking::count_records;
-use prom_store::Fault;
+use prom_store::Unread;
 use std::alloc::{AllocError, Global};
-use wal_log::{Damage, Segment};
-use wal_page::{FaultKind, PAGE_SIZE};
+use wal_page::PAGE_SIZE;
 
 /// What one file of a log holds.
 #[derive(Debug, Drop)]
@@ -25,10 +24,10 @@ pub struct FileSurvey {
     pub pages: u64,
     /// Whether the file has bytes, and all of them are zero.
     pub is_zeros: bool,
-    /// What the file holds up to its first damage.
+    /// What the file holds.
     pub survey: Survey,
-    /// If that damage is a compressed record, how many records the file has with the compressed ones unpacked, up to the first damage then.
-    pub unpacked: Option<u64>,
+    /// What of the file cannot be read, in order. There are zeros in the place of these bytes, if their number is known.
+    pub unread: Vec<Unread>,
 }
 
 // Returns the number of pages of a file.
@@ -52,50 +51,27 @@ fn is_zeros(bytes: &[u8]) -> bool
     bytes.len() > 0 && are_zeros(bytes)
 }
 
-// Returns whether damage is a compressed record.
-fn is_compressed(damage: Option<Damage>) -> bool
-    ensures { result ≡ ends_compressed damage }
-{
-    match damage {
-        Some(damage) => matches!(damage.kind, FaultKind::Compressed),
-        None => false,
-    }
-}
-
-// Returns how many records a file has with the compressed ones unpacked, if its first damage is one of these.
-fn unpacked_records(
-    alloc: Global,
-    bytes: &[u8],
-    damage: Option<Damage>,
-) -> Result<Option<u64>, AllocError>
-    ensures { IfOk result (TellsUnpacked bytes.now (ends_compressed damage)) }
-{
-    if !is_compressed(damage) {
-        return Ok(None);
-    }
-    let count = count_records(alloc, bytes)?;
-    Ok(Some(count.records))
-}
-
-/// Surveys a file of a log, one of the checkpoint's or a segment, up to its first damage, and takes the references that its records bind and
-/// name. Returns an error if out of memory.
+/// Surveys a file of a log, one of the checkpoint's or a segment, as far as it can be read. Takes the references that its records bind and
+/// name, and returns them. Returns an error if out of memory.
 pub fn survey_file(
     alloc: Global,
     in_checkpoint: bool,
-    file: &Segment,
-    references: &mut References,
-) -> Result<FileSurvey, Fault>
-    ensures { IfOk result (λ f. HasSurveyed (IsFileSurvey (record { in_checkpoint = in_checkpoint; segment = file.now })) f references.old references.new) }
+    part: PartFile,
+    references: References,
+) -> Result<(FileSurvey, References), AllocError>
+    ensures { IfOk result (λ found. HasSurveyed (AreFigures in_checkpoint part.file part.unread.items) found.0 references found.1) }
 {
-    let survey = survey(alloc, in_checkpoint, file, references)?;
-    let unpacked = unpacked_records(alloc, file.bytes.as_slice(), survey.damage)?;
-    Ok(FileSurvey {
+    let PartFile { file, unread } = part;
+    let (survey, references) = survey(alloc, in_checkpoint, &file, references)?;
+    let bytes = file.bytes.as_slice();
+    let figures = FileSurvey {
         in_checkpoint,
         number: file.number,
-        bytes: file.bytes.len() as u64,
-        pages: pages_in(file.bytes.as_slice()),
-        is_zeros: is_zeros(file.bytes.as_slice()),
+        bytes: bytes.len() as u64,
+        pages: pages_in(bytes),
+        is_zeros: is_zeros(bytes),
         survey,
-        unpacked,
-    })
+        unread,
+    };
+    Ok((figures, references))
 }

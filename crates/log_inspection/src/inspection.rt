@@ -6,15 +6,16 @@ ghost use Rattle.std.specs.Option.{option_map};
 ghost use Rattle.wal_log.specs.Plan.{named as name_of};
 ghost use Rattle.prom_store.specs.Views.{view_of};
 ghost use Rattle.log_inspection.specs.Files.{HasSurveyed, HaveSurveyed};
-ghost use Rattle.log_inspection.specs.Inspections.{AreCheckpointSurveys, AreFolderSurveys, ArePlannedSurveys, AreSurveysIn, IsInspectionIn, IsSurveyIn, is_passed_over as is_passed_over_of, is_wal, is_wbl as is_wbl_path};
+ghost use Rattle.log_inspection.specs.Inspections.{AreCheckpointSurveys, AreFolderSurveys, AreListedSurveys, AreSurveysIn, IsInspectionIn, IsSurveyIn, is_passed_over as is_passed_over_of, is_wal, is_wbl as is_wbl_path};
 
 use crate::files::{FileSurvey, survey_file};
+use log_listing::{Listing, list_files, list_log, read_listed};
 use log_references::{References, Unbound};
-use prom_commands::{names_in, plan_checkpoint, plan_log, read_planned_file};
+use prom_commands::names_in;
 use prom_store::{Fault, Store, join};
-use std::alloc::Global;
+use std::alloc::{AllocError, Global};
 use std::path::Path;
-use wal_log::{DirPlan, Named, segment_number};
+use wal_log::{Named, segment_number};
 
 /// What the files of the log in a directory hold.
 #[derive(Debug, Drop)]
@@ -71,38 +72,40 @@ fn is_wbl(dir: &str) -> bool
     }
 }
 
-// Reads and surveys a planned file of a directory.
+// Reads and surveys a listed file of a directory.
 fn survey_in<S: Store>(
     alloc: Global,
     store: &S,
     dir: &str,
     in_checkpoint: bool,
     named: &Named<'_>,
-    references: &mut References,
-) -> Result<FileSurvey, Fault>
-    ensures { IfOk result (λ f. HasSurveyed (IsSurveyIn (view_of (S.holds store.now)) dir.now in_checkpoint (name_of named.now)) f references.old references.new) }
+    references: References,
+) -> Result<(FileSurvey, References), AllocError>
+    ensures { IfOk result (λ found. HasSurveyed (IsSurveyIn (view_of (S.holds store.now)) dir.now in_checkpoint (name_of named.now)) found.0 references found.1) }
 {
-    let file = read_planned_file(alloc, store, dir, named)?;
-    survey_file(alloc, in_checkpoint, &file, references)
+    let part = read_listed(alloc, store, dir, named)?;
+    survey_file(alloc, in_checkpoint, part, references)
 }
 
-// Reads and surveys the planned files of a directory, one after another.
+// Reads and surveys the listed files of a directory, one after another.
 fn survey_files<S: Store>(
     alloc: Global,
     store: &S,
     dir: &str,
     in_checkpoint: bool,
     names: &[Named<'_>],
-    references: &mut References,
-) -> Result<Vec<FileSurvey>, Fault>
-    ensures { IfOk result (λ files. HaveSurveyed (AreSurveysIn (view_of (S.holds store.now)) dir.now in_checkpoint (map name_of names.now)) files.items references.old references.new) }
+    references: References,
+) -> Result<(Vec<FileSurvey>, References), AllocError>
+    ensures { IfOk result (λ found. HaveSurveyed (AreSurveysIn (view_of (S.holds store.now)) dir.now in_checkpoint (map name_of names.now)) found.0.items references found.1) }
 {
     let mut files = Vec::new(alloc);
+    let mut references = references;
     for named in names {
-        let file = survey_in(alloc, store, dir, in_checkpoint, named, references)?;
+        let (file, kept) = survey_in(alloc, store, dir, in_checkpoint, named, references)?;
+        references = kept;
         files.push(file)?;
     }
-    Ok(files)
+    Ok((files, references))
 }
 
 // Reads and surveys the files of a checkpoint, which is the directory.
@@ -110,52 +113,66 @@ fn survey_folder<S: Store>(
     alloc: Global,
     store: &S,
     dir: &str,
-    references: &mut References,
-) -> Result<Vec<FileSurvey>, Fault>
-    ensures { IfOk result (λ files. HaveSurveyed (AreFolderSurveys (view_of (S.holds store.now)) dir.now) files.items references.old references.new) }
+    references: References,
+) -> Result<(Vec<FileSurvey>, References), Fault>
+    ensures { IfOk result (λ found. HaveSurveyed (AreFolderSurveys (view_of (S.holds store.now)) dir.now) found.0.items references found.1) }
 {
     let names = names_in(alloc, store, dir)?;
-    let plan = plan_checkpoint(alloc, &names)?;
-    survey_files(alloc, store, dir, true, &plan, references)
+    let listed = list_files(alloc, &names, None)?;
+    let found = survey_files(alloc, store, dir, true, &listed, references)?;
+    Ok(found)
 }
 
-// Reads and surveys the files of the planned checkpoint, if there is one.
+// Reads and surveys the files of the listed checkpoint, if there is one.
 fn survey_checkpoint<S: Store>(
     alloc: Global,
     store: &S,
     dir: &str,
     named: Option<Named<'_>>,
-    references: &mut References,
-) -> Result<Vec<FileSurvey>, Fault>
-    ensures { IfOk result (λ files. HaveSurveyed (AreCheckpointSurveys (view_of (S.holds store.now)) dir.now (option_map name_of named.entry)) files.items references.old references.new) }
+    references: References,
+) -> Result<(Vec<FileSurvey>, References), Fault>
+    ensures { IfOk result (λ found. HaveSurveyed (AreCheckpointSurveys (view_of (S.holds store.now)) dir.now (option_map name_of named.entry)) found.0.items references found.1) }
 {
     let Some(named) = named else {
-        return Ok(Vec::new(alloc));
+        return Ok((Vec::new(alloc), references));
     };
     let path = join(alloc, dir, named.name)?;
     survey_folder(alloc, store, &path, references)
 }
 
-// Reads and surveys the files that the plan of a directory names.
-fn survey_planned<S: Store>(
+// Reads and surveys the listed files of a directory.
+fn survey_listed<S: Store>(
     alloc: Global,
     store: &S,
     dir: &str,
-    plan: &DirPlan<'_>,
-    references: &mut References,
-) -> Result<Vec<FileSurvey>, Fault>
-    ensures { IfOk result (λ files. HaveSurveyed (ArePlannedSurveys (view_of (S.holds store.now)) dir.now (option_map name_of plan.now.checkpoint) (map name_of plan.now.segments)) files.items references.old references.new) }
+    listing: &Listing<'_>,
+    references: References,
+) -> Result<(Vec<FileSurvey>, References), Fault>
+    ensures { IfOk result (λ found. HaveSurveyed (AreListedSurveys (view_of (S.holds store.now)) dir.now (option_map name_of listing.now.checkpoint) (map name_of listing.now.segments.items)) found.0.items references found.1) }
 {
-    let segments = plan.segments.as_slice();
-    let mut files = survey_checkpoint(alloc, store, dir, plan.checkpoint, references)?;
-    let mut segments = survey_files(alloc, store, dir, false, segments, references)?;
+    let (mut files, references) = survey_checkpoint(
+        alloc,
+        store,
+        dir,
+        listing.checkpoint,
+        references,
+    )?;
+    let (mut segments, references) = survey_files(
+        alloc,
+        store,
+        dir,
+        false,
+        &listing.segments,
+        references,
+    )?;
     files.append(&mut segments)?;
-    Ok(files)
+    Ok((files, references))
 }
 
-/// Surveys the log in a directory: the files of its newest checkpoint and the segments past it, one after another, each up to its first
-/// damage, and finds the references of samples, from the least valid time in milliseconds on, that no series entry of all these files binds.
-/// All names of a directory are checked before the first of its files is read.
+/// Surveys the log in a directory as far as it can be read: the files of its newest checkpoint and the segments past it, one after another,
+/// and finds the references of samples, from the least valid time in milliseconds on, that no series entry of all these files binds. A number
+/// may be missing between the files, and a checkpoint may have none. A file that cannot be read whole is surveyed as far as it can be. Returns
+/// an error if the names of a directory cannot be read, or if out of memory.
 pub fn inspect_log<S: Store>(
     alloc: Global,
     store: &S,
@@ -165,10 +182,10 @@ pub fn inspect_log<S: Store>(
     ensures { IfOk result (IsInspectionIn (view_of (S.holds store.now)) dir.now min_valid) }
 {
     let names = names_in(alloc, store, dir)?;
-    let plan = plan_log(alloc, &names)?;
-    let mut references = References::new(alloc, store.seed(), min_valid);
-    let files = survey_planned(alloc, store, dir, &plan, &mut references)?;
-    let checkpoint = plan.checkpoint.map(|named| named.number);
+    let listing = list_log(alloc, &names)?;
+    let references = References::new(alloc, store.seed(), min_valid);
+    let (files, references) = survey_listed(alloc, store, dir, &listing, references)?;
+    let checkpoint = listing.checkpoint.map(|named| named.number);
     Ok(Inspection {
         checkpoint,
         files,

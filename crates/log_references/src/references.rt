@@ -15,7 +15,7 @@ use hash_seed::HashSeed;
 use indexmap::IndexMap;
 use std::alloc::{AllocError, Global};
 use std::marker::Model;
-use wal_log::{Place, Placed};
+use wal_log::Place;
 use wal_record::{SampleEntry, SeriesEntry, WalRecord};
 
 /// A sample's reference that no series entry binds, and the place of the record in which it comes first.
@@ -184,14 +184,14 @@ impl References {
         note_all(&self.bound, self.min_valid, &mut self.noted, place, samples)
     }
 
-    /// Takes the next record: binds the references of its series, and notes those of its samples from the least valid time on that are not
-    /// bound yet. Returns an error if out of memory.
-    pub fn add(&mut self, record: &Placed) -> Result<(), AllocError>
-        ensures { (m : ℤ) (placed : List PlacedRecord) → AreReferencesOf m placed self.old → OnOk result (AreReferencesOf m (placed ++ record.now ∷ []) self.new) }
+    /// Takes the next record, at this place: binds the references of its series, and notes those of its samples from the least valid time on
+    /// that are not bound yet. Returns an error if out of memory.
+    pub fn add(&mut self, place: Place, content: &WalRecord) -> Result<(), AllocError>
+        ensures { (m : ℤ) (placed : List PlacedRecord) → AreReferencesOf m placed self.old → OnOk result (AreReferencesOf m (placed ++ record { place = place; content = content.now } ∷ []) self.new) }
     {
-        match &record.content {
+        match content {
             WalRecord::Series(series) => self.add_series(series.as_slice()),
-            WalRecord::Samples(samples) => self.add_samples(record.place, samples.as_slice()),
+            WalRecord::Samples(samples) => self.add_samples(place, samples.as_slice()),
             WalRecord::Stones(_) => Ok(()),
             WalRecord::Other(_) => Ok(()),
         }

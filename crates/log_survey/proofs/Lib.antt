@@ -1,6 +1,7 @@
 pub mod Distinct
 pub mod Ends
+pub mod Events
 pub mod Skipped
 pub mod Steps
-pub mod Taking
+pub mod Taken
 pub mod Worked

@@ -1,15 +1,23 @@
 -- What the records of a log are.
-use Rattle.std.specs.Prelude.{◌≡◌, ℕ, ℤ, ◌≤ℤ◌, List, [], map, length, count_by, All, Contains, Option, Some, None, nat_eq}
-use Rattle.std.specs.List.{filter_map, flat_map, sum_by}
-use Rattle.std.specs.Option.{option_eq}
+use Rattle.std.specs.Prelude.{◌≡◌, ℕ, ℤ, ◌≤ℤ◌, Bool, List, [], ◌∷◌, map, length, take, slice_get, count_by, All, Contains, Option, Some, None, nat_eq}
+use Rattle.std.specs.List.{AllZip, filter_map, flat_map, sum_by}
+use Rattle.std.specs.Option.{option_eq, option_map}
 use Rattle.hw_bytes.specs.Lists.{distinct}
 use Rattle.wal_record.specs.declared.record.SeriesEntry.{SeriesEntry}
 use Rattle.wal_record.specs.declared.record.SampleEntry.{SampleEntry}
 use Rattle.wal_record.specs.declared.record.StoneEntry.{StoneEntry}
 use Rattle.wal_record.specs.declared.record.WalRecord.{WalRecord}
 use Rattle.wal_record.specs.declared.record.WalRecord.TheVariants.{Series, Samples, Stones, Other}
+use Rattle.wal_record.specs.Records.{IsRecord}
+use Rattle.wal_log.specs.declared.input.Segment.{Segment}
+use Rattle.wal_log.specs.declared.reading.Placed.{Placed}
+use Rattle.wal_log.specs.Log.{contents}
+use Rattle.log_unpacking.specs.declared.fault.Passed.{Passed}
+use Rattle.log_unpacking.specs.declared.unpacking.UnpackedRecord.{UnpackedRecord}
+use Rattle.log_unpacking.specs.Salvage.{Event, IsSalvageOf, PassedOver, Taken, passed_in, records_in}
 use Rattle.log_survey.specs.declared.counts.KindCount.{KindCount}
 use Rattle.log_survey.specs.declared.counts.SkippedCount.{SkippedCount}
+use Rattle.log_survey.specs.declared.records.Readable.{Readable}
 use Rattle.log_survey.specs.declared.records.Survey.{Survey}
 
 -- the entries of a record of series, and `None` for any other record
@@ -58,10 +66,37 @@ abbrev pub AreEnds : List ℤ → Option (ℤ × ℤ) → Type 0
 AreEnds times None = times ≡ []
 AreEnds times (Some ends) = Contains times ends.0 × Contains times ends.1 × All (λ t. (ends.0 ≤ℤ t) × (t ≤ℤ ends.1)) times
 
--- The survey counts these records, by their kinds, and has the least and the greatest time of their samples.
+-- The counts of a survey are those of these records, by their kinds, with the least and the greatest time of their samples.
 pub record IsSurveyOf (records : List WalRecord) (s : Survey) : Type 0 where
   pub series : IsCountOf (filter_map series_entries records) s.series
   pub samples : IsCountOf (filter_map sample_entries records) s.samples
   pub stones : IsCountOf (filter_map stone_entries records) s.stones
   pub skipped : s.skipped.items ≡ counts_of (filter_map other_kind records)
   pub times : AreEnds (times_of (filter_map sample_entries records)) s.times
+
+-- What can be read of a file with these records, where this is passed over: records and samples in all, how often something is passed over,
+-- and how many bytes.
+pub record IsReadableOf (taken : List WalRecord) (over : List Passed) (r : Readable) : Type 0 where
+  pub records : r.records ≡ length taken
+  pub samples : r.samples ≡ sum_by length (filter_map sample_entries taken)
+  pub places : r.places ≡ length over
+  pub passed : r.passed ≡ sum_by (λ p. p.bytes) over
+
+-- the records before the first damage
+abbrev pub front : List Event → List UnpackedRecord
+front [] = []
+front (Taken r ∷ more) = r ∷ front more
+front (PassedOver x ∷ more) = []
+
+-- the record is what the bytes of a record in this file spell, with its place
+abbrev pub IsPlacedRecord : Bool → ℕ → UnpackedRecord → Placed → Type 0
+IsPlacedRecord in_checkpoint number r p = (p.place ≡ record { in_checkpoint = in_checkpoint; file = number; offset = r.offset }) × IsRecord r.bytes p.content
+
+-- The survey of a file, of which all that can be read are these records: its counts are of those before the first damage, if there is damage.
+pub record IsFileSurvey (in_checkpoint : Bool) (file : Segment) (placed : List Placed) (s : Survey) : Type 0 where
+  pub events : List Event
+  pub salvaged : IsSalvageOf file.bytes events
+  pub spelled : AllZip (IsPlacedRecord in_checkpoint file.number) (records_in events) placed
+  pub counted : IsSurveyOf (contents (take (length (front events)) placed)) s
+  pub damage : s.damage ≡ option_map (λ x. x.damage) (slice_get (passed_in events) 0)
+  pub readable : IsReadableOf (contents placed) (passed_in events) s.readable

@@ -11,5 +11,5 @@ mod records;
 mod surveying;
 
 pub use counts::{KindCount, SkippedCount, with_time};
-pub use records::Survey;
+pub use records::{Readable, Survey};
 pub use surveying::survey;

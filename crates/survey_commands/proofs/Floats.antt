@@ -8,13 +8,15 @@ use Rattle.serde_json.specs.Data.{Data, Members, member, no_members, number, put
 use Rattle.serde_json.specs.Find.{of_integer}
 use Rattle.serde_json.specs.View.{items_of}
 use Rattle.serde_json.specs.Written.{has_float, items_have_float, members_have_float}
-use Rattle.wal_log.specs.declared.reading.Damage.{Damage as LogDamage}
+use Rattle.log_unpacking.specs.declared.fault.UnpackDamage.{UnpackDamage}
 use Rattle.log_survey.specs.declared.counts.KindCount.{KindCount}
 use Rattle.log_survey.specs.declared.counts.SkippedCount.{SkippedCount}
+use Rattle.log_survey.specs.declared.records.Readable.{Readable}
 use Rattle.log_survey.specs.declared.records.Survey.{Survey}
 use Rattle.log_inspection.specs.declared.files.FileSurvey.{FileSurvey}
 use Rattle.log_inspection.specs.declared.sums.Sums.{Sums as LogSums}
-use Rattle.survey_commands.specs.Documents.{Member, array_of, count_data, count_members, damage_data, damage_members, document_members, file_data, file_members, name_members, natural, object_of, or_null, record_members, size_members, skipped_data, sums_members, survey_members, time_members, type_members, with_members}
+use Rattle.prom_store.specs.declared.store.Unread.{Unread}
+use Rattle.survey_commands.specs.Documents.{Member, array_of, count_data, count_members, damage_data, damage_members, document_members, fault_number, file_data, file_members, name_members, natural, object_of, or_null, readable_data, readable_members, record_members, size_members, skipped_data, sums_members, survey_members, time_members, type_members, unread_data, unread_members, with_members}
 
 left : (a b : Bool) → (a || b) ≡ false → a ≡ false
 left true b e = absurd cc
@@ -84,25 +86,31 @@ times_exact ends = (null_exact (λ (e : ℤ × ℤ). number (of_integer e.0)) (�
 skipped_exact : (c : SkippedCount) → has_float (skipped_data c) ≡ false
 skipped_exact c = object_exact (type_members c) (null_exact natural (λ n. refl) c.kind, (refl, tt))
 
-damage_exact : (d : LogDamage) → has_float (damage_data d) ≡ false
-damage_exact d = object_exact (damage_members d) (refl, (refl, (refl, tt)))
+damage_exact : (d : UnpackDamage) → has_float (damage_data d) ≡ false
+damage_exact d = object_exact (damage_members d) (refl, (null_exact natural (λ n. refl) (fault_number d.fault), (refl, tt)))
+
+readable_exact : (r : Readable) → has_float (readable_data r) ≡ false
+readable_exact r = object_exact (readable_members r) (refl, (refl, (refl, (refl, tt))))
+
+unread_exact : (u : Unread) → has_float (unread_data u) ≡ false
+unread_exact u = object_exact (unread_members u) (refl, (refl, tt))
 
 survey_exact : (s : Survey) → AreExact (survey_members s)
 survey_exact s =
-    let damage : List Member = (codes "damage", or_null damage_data s.damage) ∷ [] in
-    let last : AreExact damage = (null_exact damage_data damage_exact s.damage, tt) in
+    let damage : List Member = (codes "damage", or_null damage_data s.damage) ∷ (codes "readable", readable_data s.readable) ∷ [] in
+    let last : AreExact damage = (null_exact damage_data damage_exact s.damage, (readable_exact s.readable, tt)) in
     let times : AreExact (time_members s.times ++ damage) = append_exact (time_members s.times) damage (times_exact s.times) last in
     let skipped : AreExact ((codes "skipped", array_of skipped_data s.skipped.items) ∷ (time_members s.times ++ damage)) = (array_exact skipped_data skipped_exact s.skipped.items, times) in
     append_exact (count_members s.series s.samples s.stones) ((codes "skipped", array_of skipped_data s.skipped.items) ∷ (time_members s.times ++ damage)) (counts_exact s.series s.samples s.stones) skipped
 
 file_exact : (f : FileSurvey) → has_float (file_data f) ≡ false
 file_exact f =
-    let unpacked : List Member = (codes "unpacked", or_null natural f.unpacked) ∷ [] in
-    let last : AreExact unpacked = (null_exact natural (λ n. refl) f.unpacked, tt) in
-    let survey : AreExact (survey_members f.survey ++ unpacked) = append_exact (survey_members f.survey) unpacked (survey_exact f.survey) last in
-    let size : AreExact (size_members f.bytes f.pages ++ (survey_members f.survey ++ unpacked)) = append_exact (size_members f.bytes f.pages) (survey_members f.survey ++ unpacked) (sizes_exact f.bytes f.pages) survey in
+    let unread : List Member = (codes "unread", array_of unread_data f.unread.items) ∷ [] in
+    let last : AreExact unread = (array_exact unread_data unread_exact f.unread.items, tt) in
+    let survey : AreExact (survey_members f.survey ++ unread) = append_exact (survey_members f.survey) unread (survey_exact f.survey) last in
+    let size : AreExact (size_members f.bytes f.pages ++ (survey_members f.survey ++ unread)) = append_exact (size_members f.bytes f.pages) (survey_members f.survey ++ unread) (sizes_exact f.bytes f.pages) survey in
     let name : AreExact (name_members f.in_checkpoint f.number) = (refl, (refl, tt)) in
-    object_exact (file_members f) (append_exact (name_members f.in_checkpoint f.number) (size_members f.bytes f.pages ++ (survey_members f.survey ++ unpacked)) name size)
+    object_exact (file_members f) (append_exact (name_members f.in_checkpoint f.number) (size_members f.bytes f.pages ++ (survey_members f.survey ++ unread)) name size)
 
 sums_exact : (s : LogSums) → has_float (object_of (sums_members s)) ≡ false
 sums_exact s =

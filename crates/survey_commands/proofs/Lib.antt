@@ -1,3 +1,4 @@
+pub mod OnFile
 pub mod Conditions
 pub mod Told
 pub mod Floats

@@ -13,9 +13,10 @@ use Rattle.prom_store.specs.declared.fault.Status.{Status}
 use Rattle.survey_commands.specs.declared.remarks.Remark.{Remark}
 use Rattle.survey_commands.specs.declared.remarks.Remark.TheVariants.{EmptyCheckpoint, NoLog, NoneBehind, PassedOver, SegmentsMissing, UnboundReferences}
 use Rattle.survey_commands.specs.Statuses.{IsStatusOf}
-use Rattle.survey_commands.specs.Remarks.{AreInOrder, AreOnEach, Holds, HoldsBelow, HoldsOfFile, IsAtMostOne, IsOnCheckpoint, IsOnFiles, IsOnPassedOver, IsOnReferences, are_read, first_segment, has_checkpoint_file, hides_records}
-use Rattle.survey_commands.specs.Remarking.{checkpoint_remark, file_remark, file_remarks, first_remark, log_remark, passed_remark, remark_on, some_of, unbound_remark}
-use Rattle.survey_commands.proofs.Conditions.{checkpoint_holds, file_holds, file_told, log_holds, log_told, passed_holds, same_remark, unbound_holds}
+use Rattle.survey_commands.specs.Remarks.{AreInOrder, AreOnEach, Holds, HoldsAndIs, HoldsBelow, HoldsOfFile, IsAtMostOne, IsOnCheckpoint, IsOnContents, IsOnFiles, IsOnNumber, IsOnPassedOver, IsOnReferences, IsOnUnread, are_read, first_segment, has_checkpoint_file, hides_records}
+use Rattle.survey_commands.specs.Remarking.{checkpoint_remark, file_remarks, first_remark, found_remark, log_remark, number_remark, own_remarks, passed_remark, remark_on, some_of, unbound_remark, unread_remark}
+use Rattle.survey_commands.proofs.Conditions.{checkpoint_holds, log_holds, log_told, passed_holds, unbound_holds}
+use Rattle.survey_commands.proofs.OnFile.{file_told, found_holds, number_holds, same_remark, unread_holds}
 
 -- all remarks on a log
 abbrev pub all_remarks : Inspection → List Remark
@@ -40,10 +41,35 @@ below_later f later r (k, g, below, at, holds) =
     let next : suc k + 1 ≡ suc (k + 1) = omega arith in
     (suc k, g, omega (arith, below), at, subst (λ (n : ℕ). HoldsOfFile g (drop n (f ∷ later)) r) (sym next) holds)
 
+own_contained : (f : FileSurvey) (later : List FileSurvey) (r : Remark) → Contains (own_remarks f later) r → HoldsOfFile f later r
+own_contained f later r h =
+    let found = some_of (found_remark f later) in
+    let behind = some_of (number_remark f later) in
+    elim (Contains-append_cases (some_of (unread_remark f)) (found ++ behind) r h) as (λ _. HoldsOfFile f later r) [
+      | inl k ↦ (unread_holds f later r (in_some (unread_remark f) r k)).0
+      | inr k ↦ elim (Contains-append_cases found behind r k) as (λ _. HoldsOfFile f later r) [
+        | inl k ↦ (found_holds f later r (in_some (found_remark f later) r k)).0
+        | inr k ↦ (number_holds f later r (in_some (number_remark f later) r k)).0
+      ]
+    ]
+
+contains_own : (f : FileSurvey) (later : List FileSurvey) (r : Remark) → HoldsOfFile f later r → Contains (own_remarks f later) r
+contains_own f later r h =
+    let unread = some_of (unread_remark f) in
+    let found = some_of (found_remark f later) in
+    let behind = some_of (number_remark f later) in
+    elim (file_told f later r h) as (λ _. Contains (own_remarks f later) r) [
+      | inl k ↦ Contains-append_left unread (found ++ behind) r (of_some (unread_remark f) r k)
+      | inr k ↦ Contains-append_right unread (found ++ behind) r (elim k as (λ _. Contains (found ++ behind) r) [
+        | inl k ↦ Contains-append_left found behind r (of_some (found_remark f later) r k)
+        | inr k ↦ Contains-append_right found behind r (of_some (number_remark f later) r k)
+      ])
+    ]
+
 file_contained : (files : List FileSurvey) (r : Remark) → Contains (file_remarks files) r → HoldsBelow (length files) files r
 file_contained [] r h = absurd (none_contained [] r refl h)
-file_contained (f ∷ later) r h = elim (Contains-append_cases (some_of (file_remark f later)) (file_remarks later) r h) as (λ _. HoldsBelow (length (f ∷ later)) (f ∷ later) r) [
-  | inl k ↦ (0, f, omega arith, refl, file_holds f later r (in_some (file_remark f later) r k))
+file_contained (f ∷ later) r h = elim (Contains-append_cases (own_remarks f later) (file_remarks later) r h) as (λ _. HoldsBelow (length (f ∷ later)) (f ∷ later) r) [
+  | inl k ↦ (0, f, omega arith, refl, own_contained f later r k)
   | inr k ↦ below_later f later r (file_contained later r k)
 ]
 
@@ -51,10 +77,10 @@ contains_file : (files : List FileSurvey) (r : Remark) (k : ℕ) (g : FileSurvey
 contains_file [] r k g below at holds = absurd (omega (arith, below))
 contains_file (f ∷ later) r zero g below at holds =
     let same : f ≡ g = cc in
-    Contains-append_left (some_of (file_remark f later)) (file_remarks later) r (of_some (file_remark f later) r (file_told f later r (subst (λ (h : FileSurvey). HoldsOfFile h later r) (sym same) holds)))
+    Contains-append_left (own_remarks f later) (file_remarks later) r (contains_own f later r (subst (λ (h : FileSurvey). HoldsOfFile h later r) (sym same) holds))
 contains_file (f ∷ later) r (suc k) g below at holds =
     let next : suc k + 1 ≡ suc (k + 1) = omega arith in
-    Contains-append_right (some_of (file_remark f later)) (file_remarks later) r (contains_file later r k g (omega (arith, below)) at (subst (λ (n : ℕ). HoldsOfFile g (drop n (f ∷ later)) r) next holds))
+    Contains-append_right (own_remarks f later) (file_remarks later) r (contains_file later r k g (omega (arith, below)) at (subst (λ (n : ℕ). HoldsOfFile g (drop n (f ∷ later)) r) next holds))
 
 -- the remarks of the list hold
 pub all_hold : (i : Inspection) (r : Remark) → Contains (all_remarks i) r → Holds i r
@@ -112,7 +138,21 @@ one_of P (Some r) h = h r refl
 
 on_each : (files : List FileSurvey) → AreOnEach files (file_remarks files)
 on_each [] = refl
-on_each (f ∷ later) = (some_of (file_remark f later), file_remarks later, refl, one_of (HoldsOfFile f later) (file_remark f later) (file_holds f later), on_each later)
+on_each (f ∷ later) =
+    let unread = some_of (unread_remark f) in
+    let found = some_of (found_remark f later) in
+    let behind = some_of (number_remark f later) in
+    let others = file_remarks later in (
+      unread,
+      found,
+      behind,
+      others,
+      append_assoc unread (found ++ behind) others ∙ ap (λ (l : List Remark). unread ++ l) (append_assoc found behind others),
+      one_of (HoldsAndIs IsOnUnread f later) (unread_remark f) (unread_holds f later),
+      one_of (HoldsAndIs IsOnContents f later) (found_remark f later) (found_holds f later),
+      one_of (HoldsAndIs IsOnNumber f later) (number_remark f later) (number_holds f later),
+      on_each later,
+    )
 
 is_lower : (from first : ℕ) (b : Bool) (r : Remark) → (if b then Some (SegmentsMissing from first) else None) ≡ Some r → IsOnFiles r
 is_lower from first true r is = subst IsOnFiles (same_remark (SegmentsMissing from first) r is) tt
@@ -175,24 +215,28 @@ from_one files n f later within is behind =
     let next : suc n ≡ n + 1 = omega arith in
     drop-cons files n f within ∙ ap (λ (x : FileSurvey). x ∷ drop (suc n) files) (sym is) ∙ ap (λ (m : ℕ). f ∷ drop m files) next ∙ ap (λ (l : List FileSurvey). f ∷ l) (sym behind)
 
--- the remark on the next file is added
-pub next_told : (files : List FileSurvey) (n : ℕ) (f : FileSurvey) (later : List FileSurvey) (remark : Option Remark) (a b all : List Remark) → n < length files → f ≡ get_or files n f → later ≡ drop (n + 1) files → remark ≡ file_remark f later
-    → b ≡ a ++ some_of remark → a ++ file_remarks (drop n files) ≡ all → b ++ file_remarks (drop (n + 1) files) ≡ all
-next_told files n f later remark a b all within is behind told made so_far =
+-- the remarks on one file are added
+pub own_told : (unread found behind a b c d : List Remark) → b ≡ a ++ unread → c ≡ b ++ found → d ≡ c ++ behind → d ≡ a ++ (unread ++ (found ++ behind))
+own_told unread found behind a b c d first second third =
+    third ∙ ap (λ (l : List Remark). l ++ behind) (second ∙ ap (λ (l : List Remark). l ++ found) first) ∙ append_assoc (a ++ unread) found behind ∙ append_assoc a unread (found ++ behind)
+
+-- the remarks on the next file are added
+pub next_told : (files : List FileSurvey) (n : ℕ) (f : FileSurvey) (later : List FileSurvey) (a b all : List Remark) → n < length files → f ≡ get_or files n f → later ≡ drop (n + 1) files
+    → b ≡ a ++ own_remarks f later → a ++ file_remarks (drop n files) ≡ all → b ++ file_remarks (drop (n + 1) files) ≡ all
+next_told files n f later a b all within is behind made so_far =
     ap (λ (l : List Remark). l ++ file_remarks (drop (n + 1) files)) made
-    ∙ append_assoc a (some_of remark) (file_remarks (drop (n + 1) files))
-    ∙ ap (λ (o : Option Remark). a ++ (some_of o ++ file_remarks (drop (n + 1) files))) told
-    ∙ ap (λ (l : List FileSurvey). a ++ (some_of (file_remark f later) ++ file_remarks l)) (sym behind)
+    ∙ append_assoc a (own_remarks f later) (file_remarks (drop (n + 1) files))
+    ∙ ap (λ (l : List FileSurvey). a ++ (own_remarks f later ++ file_remarks l)) (sym behind)
     ∙ ap (λ (l : List FileSurvey). a ++ file_remarks l) (sym (from_one files n f later within is behind))
     ∙ so_far
 
--- damage of the next file hides records, or none
+-- the next file hides records, or none
 pub next_read : (files : List FileSurvey) (n : ℕ) (f : FileSurvey) (later : List FileSurvey) (last b : Bool) → n < length files → f ≡ get_or files n f → later ≡ drop (n + 1) files → last ≡ (length later == 0)
-    → b ≡ hides_records f.survey.damage last → are_read files ≡ are_read (drop n files) → are_read files ≡ (not b && are_read (drop (n + 1) files))
+    → b ≡ hides_records f last → are_read files ≡ are_read (drop n files) → are_read files ≡ (not b && are_read (drop (n + 1) files))
 next_read files n f later last b within is behind end hides so_far =
     so_far
     ∙ ap are_read (from_one files n f later within is behind)
-    ∙ ap (λ (t : Bool). not (hides_records f.survey.damage t) && are_read later) (sym end)
+    ∙ ap (λ (t : Bool). not (hides_records f t) && are_read later) (sym end)
     ∙ ap (λ (t : Bool). not t && are_read later) (sym hides)
     ∙ ap (λ (l : List FileSurvey). not b && are_read l) behind
 

@@ -5,9 +5,13 @@ use Rattle.serde_json.specs.Find.{of_integer}
 use Rattle.serde_json.specs.View.{items_of}
 use Rattle.serde_json.specs.Written.{compact_text}
 use Rattle.wal_page.specs.Kinds.{name_of, number_of}
-use Rattle.wal_log.specs.declared.reading.Damage.{Damage as LogDamage}
+use Rattle.wal_page.specs.declared.fault.FaultKind.TheVariants as kind
+use Rattle.log_unpacking.specs.declared.fault.UnpackDamage.{UnpackDamage}
+use Rattle.log_unpacking.specs.declared.fault.UnpackFault.{UnpackFault}
+use Rattle.log_unpacking.specs.declared.fault.UnpackFault.TheVariants.{BadBlock, BadRecord, Hole, InFile, Mixed}
 use Rattle.log_survey.specs.declared.counts.KindCount.{KindCount}
 use Rattle.log_survey.specs.declared.counts.SkippedCount.{SkippedCount}
+use Rattle.log_survey.specs.declared.records.Readable.{Readable}
 use Rattle.log_survey.specs.declared.records.Survey.{Survey}
 use Rattle.log_inspection.specs.declared.files.FileSurvey.{FileSurvey}
 use Rattle.log_inspection.specs.declared.inspection.Inspection.{Inspection}
@@ -15,6 +19,7 @@ use Rattle.log_inspection.specs.declared.sums.Sums.{Sums as LogSums}
 use Rattle.log_inspection.specs.Sums.{AreSumsOf}
 use Rattle.log_inspection.specs.Inspections.{IsInspectionIn}
 use Rattle.prom_store.specs.Views.{View}
+use Rattle.prom_store.specs.declared.store.Unread.{Unread}
 use Rattle.survey_commands.specs.declared.remarks.Remark.{Remark}
 use Rattle.survey_commands.specs.Remarks.{Holds}
 
@@ -63,11 +68,38 @@ type_members c = (codes "type", or_null natural c.kind) ∷ (codes "records", na
 abbrev pub skipped_data : SkippedCount → Data
 skipped_data c = object_of (type_members c)
 
-abbrev pub damage_members : LogDamage → List Member
-damage_members d = (codes "offset", natural d.place.offset) ∷ (codes "kind", natural (number_of d.kind)) ∷ (codes "name", string (name_of d.kind)) ∷ []
+-- the number of the kind of a fault, if it has one, and its name
+abbrev pub fault_number : UnpackFault → Option ℕ
+fault_number (InFile k) = Some (number_of k)
+fault_number BadRecord = Some (number_of kind.BadRecord)
+fault_number other = None
 
-abbrev pub damage_data : LogDamage → Data
+abbrev pub fault_name : UnpackFault → List ℕ
+fault_name (InFile k) = name_of k
+fault_name BadRecord = name_of kind.BadRecord
+fault_name Mixed = codes "Mixed"
+fault_name (BadBlock fault) = codes "BadBlock"
+fault_name Hole = codes "Hole"
+
+abbrev pub damage_members : UnpackDamage → List Member
+damage_members d = (codes "offset", natural d.offset) ∷ (codes "kind", or_null natural (fault_number d.fault)) ∷ (codes "name", string (fault_name d.fault)) ∷ []
+
+abbrev pub damage_data : UnpackDamage → Data
 damage_data d = object_of (damage_members d)
+
+-- how much of a file can be read, also behind damage
+abbrev pub readable_members : Readable → List Member
+readable_members r = (codes "records", natural r.records) ∷ (codes "samples", natural r.samples) ∷ (codes "places", natural r.places) ∷ (codes "passed", natural r.passed) ∷ []
+
+abbrev pub readable_data : Readable → Data
+readable_data r = object_of (readable_members r)
+
+-- bytes of a file that cannot be read
+abbrev pub unread_members : Unread → List Member
+unread_members u = (codes "offset", natural u.offset) ∷ (codes "bytes", natural u.bytes) ∷ []
+
+abbrev pub unread_data : Unread → Data
+unread_data u = object_of (unread_members u)
 
 -- which file it is
 abbrev pub file_word : Bool → List ℕ
@@ -77,14 +109,14 @@ file_word false = codes "segment"
 abbrev pub name_members : Bool → ℕ → List Member
 name_members in_checkpoint n = (codes "file", string (file_word in_checkpoint)) ∷ (codes "number", natural n) ∷ []
 
--- the figures of a file, up to its first damage
+-- the figures of a file up to its first damage, that damage, and how much of it can be read
 abbrev pub survey_members : Survey → List Member
 survey_members s =
     count_members s.series s.samples s.stones
-    ++ ((codes "skipped", array_of skipped_data s.skipped.items) ∷ (time_members s.times ++ ((codes "damage", or_null damage_data s.damage) ∷ [])))
+    ++ ((codes "skipped", array_of skipped_data s.skipped.items) ∷ (time_members s.times ++ ((codes "damage", or_null damage_data s.damage) ∷ (codes "readable", readable_data s.readable) ∷ [])))
 
 abbrev pub file_members : FileSurvey → List Member
-file_members f = name_members f.in_checkpoint f.number ++ (size_members f.bytes f.pages ++ (survey_members f.survey ++ ((codes "unpacked", or_null natural f.unpacked) ∷ [])))
+file_members f = name_members f.in_checkpoint f.number ++ (size_members f.bytes f.pages ++ (survey_members f.survey ++ ((codes "unread", array_of unread_data f.unread.items) ∷ [])))
 
 abbrev pub file_data : FileSurvey → Data
 file_data f = object_of (file_members f)

@@ -1,22 +1,27 @@
 -- The remark on a file or on a log, and the list of all: words of private functions, which no public contract cites.
-use Rattle.std.specs.Prelude.{◌==◌, ◌^◌, ◌&&◌, ◌++◌, not, nat_lt, length, if◌then◌else◌, ℕ, Bool, true, List, [], ◌∷◌, Option, None, Some}
+use Rattle.std.specs.Prelude.{◌==◌, ◌+◌, ◌-◌, ◌^◌, ◌&&◌, ◌++◌, not, nat_lt, length, if◌then◌else◌, ℕ, Bool, List, [], ◌∷◌, Option, None, Some, slice_get}
 use Rattle.std.specs.Option.{option_map}
-use Rattle.wal_page.specs.declared.fault.FaultKind.{FaultKind}
-use Rattle.wal_page.specs.declared.fault.FaultKind.TheVariants as kind
-use Rattle.wal_log.specs.declared.reading.Damage.{Damage as LogDamage}
 use Rattle.wal_log.specs.Inputs.{following}
+use Rattle.log_unpacking.specs.declared.fault.UnpackDamage.{UnpackDamage}
 use Rattle.log_references.specs.declared.references.Unbound.{Unbound as ReferencesUnbound}
 use Rattle.log_inspection.specs.declared.files.FileSurvey.{FileSurvey}
 use Rattle.log_inspection.specs.declared.inspection.Inspection.{Inspection}
+use Rattle.survey_commands.specs.declared.remarks.FileDamage.{FileDamage}
 use Rattle.survey_commands.specs.declared.remarks.Remark.{Remark}
-use Rattle.survey_commands.specs.declared.remarks.Remark.TheVariants.{Compressed, Damaged, Empty, EmptyCheckpoint, NoLog, NoneBehind, PassedOver, SegmentsMissing, TornEnd, UnboundReferences, Zeros}
-use Rattle.survey_commands.specs.Remarks.{are_read, file_of, first_segment, has_checkpoint_file}
+use Rattle.survey_commands.specs.declared.remarks.Remark.TheVariants.{Damaged, Empty, EmptyCheckpoint, Gap, NoLog, NoneBehind, PassedOver, SameNumber, SegmentsMissing, TornEnd, UnboundReferences, Unread, Zeros}
+use Rattle.survey_commands.specs.Remarks.{are_read, file_of, first_segment, has_checkpoint_file, is_torn, next_number}
 
--- the remark on damage of this kind, in a file that is the last one or not
-abbrev pub damage_remark : FaultKind → Bool → LogDamage → Remark
-damage_remark kind.Compressed last damage = Compressed damage
-damage_remark kind.Torn true damage = TornEnd damage
-damage_remark other last damage = Damaged damage
+-- the remark on what of a file cannot be read, if there is something
+abbrev pub unread_remark : FileSurvey → Option Remark
+unread_remark f = option_map (λ unread. Unread (file_of f) unread) (slice_get f.unread.items 0)
+
+-- the damage of a file, and how much of the file can be read
+abbrev pub damage_of : FileSurvey → UnpackDamage → FileDamage
+damage_of f damage = record { file = file_of f; damage = damage; readable = f.survey.readable }
+
+-- the remark on damage of a file, which is the last one or not
+abbrev pub damage_remark : FileSurvey → UnpackDamage → Bool → Remark
+damage_remark f damage last = if last && is_torn damage.fault then TornEnd (damage_of f damage) else Damaged (damage_of f damage)
 
 -- the remark on a file of no bytes, and on one without damage, behind which come these files
 abbrev pub empty_remark : FileSurvey → List FileSurvey → Option Remark
@@ -25,13 +30,25 @@ empty_remark f later = if f.in_checkpoint && has_checkpoint_file later then Some
 abbrev pub blank_remark : FileSurvey → List FileSurvey → Option Remark
 blank_remark f later = if f.bytes == 0 then empty_remark f later else if f.is_zeros && not (length later == 0) then Some (Zeros (file_of f)) else None
 
-abbrev pub remark_by : Option LogDamage → FileSurvey → List FileSurvey → Option Remark
-remark_by (Some damage) f later = Some (damage_remark damage.kind (length later == 0) damage)
-remark_by None f later = blank_remark f later
+abbrev pub remark_by : Option UnpackDamage → FileSurvey → List FileSurvey → Option Remark
+remark_by (Some damage) f later = Some (damage_remark f damage (length later == 0))
+remark_by None f later = if length f.unread.items == 0 then blank_remark f later else None
 
--- the remark on a file
-abbrev pub file_remark : FileSurvey → List FileSurvey → Option Remark
-file_remark f later = remark_by f.survey.damage f later
+-- the remark on what is found in a file
+abbrev pub found_remark : FileSurvey → List FileSurvey → Option Remark
+found_remark f later = remark_by f.survey.damage f later
+
+-- the remark on numbers that are missing between a file and the next one of its kind
+abbrev pub gap_remark : Bool → ℕ → ℕ → Option Remark
+gap_remark in_checkpoint number next = if nat_lt (number + 1) next then Some (Gap (number + 1) (next - 1) in_checkpoint) else None
+
+-- the remark on the number of the next file of a file's kind, if there is one
+abbrev pub behind_remark : FileSurvey → Option ℕ → Option Remark
+behind_remark f None = None
+behind_remark f (Some next) = if f.number == next then Some (SameNumber (file_of f)) else gap_remark f.in_checkpoint f.number next
+
+abbrev pub number_remark : FileSurvey → List FileSurvey → Option Remark
+number_remark f later = behind_remark f (next_number f.in_checkpoint later)
 
 -- the remark on the first segment, if there is one, of a log whose first one is to have this number, or may have any
 abbrev pub first_remark : ℕ → Bool → Option ℕ → Option Remark
@@ -64,7 +81,10 @@ abbrev pub some_of : Option Remark → List Remark
 some_of None = []
 some_of (Some r) = r ∷ []
 
--- the remarks on these files
+-- the remarks on a file, and on these files
+abbrev pub own_remarks : FileSurvey → List FileSurvey → List Remark
+own_remarks f later = some_of (unread_remark f) ++ (some_of (found_remark f later) ++ some_of (number_remark f later))
+
 abbrev pub file_remarks : List FileSurvey → List Remark
 file_remarks [] = []
-file_remarks (f ∷ later) = some_of (file_remark f later) ++ file_remarks later
+file_remarks (f ∷ later) = own_remarks f later ++ file_remarks later

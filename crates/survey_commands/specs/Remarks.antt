@@ -1,16 +1,19 @@
 -- Which remarks hold of a log.
-use Rattle.std.specs.Prelude.{◌≡◌, ◌≢◌, ◌⊎◌, ◌+◌, ◌<◌, ◌^◌, ◌&&◌, ◌++◌, ◌∷◌, ◌==◌, not, ℕ, Bool, true, false, List, [], Option, None, Some, drop, length, slice_get}
+use Rattle.std.specs.Prelude.{◌≡◌, ◌≢◌, ◌⊎◌, ◌+◌, ◌<◌, ◌≤◌, ◌^◌, ◌&&◌, ◌||◌, ◌++◌, ◌∷◌, ◌==◌, not, ℕ, Bool, true, false, List, [], Option, None, Some, drop, length, slice_get}
+use Rattle.std.specs.Bool.{beq}
 use Rattle.std.specs.List.{find, list_any}
 use Rattle.std.specs.Option.{option_map}
-use Rattle.wal_page.specs.declared.fault.FaultKind.{FaultKind}
 use Rattle.wal_page.specs.declared.fault.FaultKind.TheVariants as kind
-use Rattle.wal_log.specs.declared.reading.Damage.{Damage as LogDamage}
 use Rattle.wal_log.specs.Inputs.{following}
+use Rattle.log_unpacking.specs.declared.fault.UnpackDamage.{UnpackDamage}
+use Rattle.log_unpacking.specs.declared.fault.UnpackFault.{UnpackFault}
+use Rattle.log_unpacking.specs.declared.fault.UnpackFault.TheVariants.{InFile}
 use Rattle.log_inspection.specs.declared.files.FileSurvey.{FileSurvey}
 use Rattle.log_inspection.specs.declared.inspection.Inspection.{Inspection}
+use Rattle.survey_commands.specs.declared.remarks.FileDamage.{FileDamage}
 use Rattle.survey_commands.specs.declared.remarks.NumberedFile.{NumberedFile}
 use Rattle.survey_commands.specs.declared.remarks.Remark.{Remark}
-use Rattle.survey_commands.specs.declared.remarks.Remark.TheVariants.{Compressed, Damaged, Empty, EmptyCheckpoint, NoLog, NoneBehind, PassedOver, SegmentsMissing, TornEnd, UnboundReferences, Zeros}
+use Rattle.survey_commands.specs.declared.remarks.Remark.TheVariants.{Damaged, Empty, EmptyCheckpoint, Gap, NoLog, NoneBehind, PassedOver, SameNumber, SegmentsMissing, TornEnd, UnboundReferences, Unread, Zeros}
 
 -- the file whose survey this is
 abbrev pub file_of : FileSurvey → NumberedFile
@@ -24,27 +27,43 @@ first_segment files = option_map (λ f. f.number) (find (λ f. not f.in_checkpoi
 abbrev pub has_checkpoint_file : List FileSurvey → Bool
 has_checkpoint_file files = list_any (λ f. f.in_checkpoint) files
 
-abbrev pub is_torn : FaultKind → Bool
-is_torn kind.Torn = true
+-- the number of the next of these files that is of the same kind: one of the checkpoint's, or a segment
+abbrev pub next_number : Bool → List FileSurvey → Option ℕ
+next_number in_checkpoint later = option_map (λ f. f.number) (find (λ f. beq f.in_checkpoint in_checkpoint) later)
+
+abbrev pub is_torn : UnpackFault → Bool
+is_torn (InFile kind.Torn) = true
 is_torn other = false
 
 -- whether damage, if there is any, of a file that is the last one or not, may hide records: it is no torn end of the log
-abbrev pub hides_records : Option LogDamage → Bool → Bool
-hides_records None last = false
-hides_records (Some damage) last = not (last && is_torn damage.kind)
+abbrev pub damage_hides : Option UnpackDamage → Bool → Bool
+damage_hides None last = false
+damage_hides (Some damage) last = not (last && is_torn damage.fault)
 
--- whether all records of these files were read: no damage hides one
+-- whether a file that is the last one or not may have records that were not read: behind damage, or in what cannot be read
+abbrev pub hides_records : FileSurvey → Bool → Bool
+hides_records f last = not (length f.unread.items == 0) || damage_hides f.survey.damage last
+
+-- whether all records of these files were read: none hides one
 abbrev pub are_read : List FileSurvey → Bool
 are_read [] = true
-are_read (f ∷ later) = not (hides_records f.survey.damage (length later == 0)) && are_read later
+are_read (f ∷ later) = not (hides_records f (length later == 0)) && are_read later
+
+-- The damage is that of the file.
+pub record IsDamageOf (f : FileSurvey) (d : FileDamage) : Type 0 where
+  pub file : d.file ≡ file_of f
+  pub damage : f.survey.damage ≡ Some d.damage
+  pub readable : d.readable ≡ f.survey.readable
 
 -- the remark holds of a file, behind which come these files
 abbrev pub HoldsOfFile : FileSurvey → List FileSurvey → Remark → Type 0
-HoldsOfFile f later (Empty file) = (file ≡ file_of f) × (f.survey.damage ≡ None) × (f.bytes ≡ 0) × (f.in_checkpoint ≡ true) × (has_checkpoint_file later ≡ true)
-HoldsOfFile f later (Zeros file) = (file ≡ file_of f) × (f.survey.damage ≡ None) × (f.bytes ≢ 0) × (f.is_zeros ≡ true) × (later ≢ [])
-HoldsOfFile f later (TornEnd damage) = (f.survey.damage ≡ Some damage) × (damage.kind ≡ kind.Torn) × (later ≡ [])
-HoldsOfFile f later (Compressed damage) = (f.survey.damage ≡ Some damage) × (damage.kind ≡ kind.Compressed)
-HoldsOfFile f later (Damaged damage) = (f.survey.damage ≡ Some damage) × (damage.kind ≢ kind.Compressed) × (damage.kind ≡ kind.Torn → later ≢ [])
+HoldsOfFile f later (Unread file unread) = (file ≡ file_of f) × (slice_get f.unread.items 0 ≡ Some unread)
+HoldsOfFile f later (Empty file) = (file ≡ file_of f) × (f.unread.items ≡ []) × (f.survey.damage ≡ None) × (f.bytes ≡ 0) × (f.in_checkpoint ≡ true) × (has_checkpoint_file later ≡ true)
+HoldsOfFile f later (Zeros file) = (file ≡ file_of f) × (f.unread.items ≡ []) × (f.survey.damage ≡ None) × (f.bytes ≢ 0) × (f.is_zeros ≡ true) × (later ≢ [])
+HoldsOfFile f later (TornEnd d) = IsDamageOf f d × (d.damage.fault ≡ InFile kind.Torn) × (later ≡ [])
+HoldsOfFile f later (Damaged d) = IsDamageOf f d × (d.damage.fault ≡ InFile kind.Torn → later ≢ [])
+HoldsOfFile f later (Gap from to in_checkpoint) = (next_number f.in_checkpoint later ≡ Some (to + 1)) × (from ≡ f.number + 1) × (from ≤ to) × (in_checkpoint ≡ f.in_checkpoint)
+HoldsOfFile f later (SameNumber file) = (file ≡ file_of f) × (next_number f.in_checkpoint later ≡ Some f.number)
 HoldsOfFile f later (NoLog has_wal) = ⊥
 HoldsOfFile f later (SegmentsMissing from first) = ⊥
 HoldsOfFile f later (NoneBehind next) = ⊥
@@ -97,10 +116,32 @@ abbrev pub IsOnReferences : Remark → Type 0
 IsOnReferences (UnboundReferences references first all_read) = Unit {0}
 IsOnReferences other = ⊥
 
--- one remark at most on each of these files in turn
+-- the remark is on what of a file cannot be read, on damage or emptiness, on the number of the next file
+abbrev pub IsOnUnread : Remark → Type 0
+IsOnUnread (Unread file unread) = Unit {0}
+IsOnUnread other = ⊥
+
+abbrev pub IsOnContents : Remark → Type 0
+IsOnContents (Empty file) = Unit {0}
+IsOnContents (Zeros file) = Unit {0}
+IsOnContents (TornEnd d) = Unit {0}
+IsOnContents (Damaged d) = Unit {0}
+IsOnContents other = ⊥
+
+abbrev pub IsOnNumber : Remark → Type 0
+IsOnNumber (Gap from to in_checkpoint) = Unit {0}
+IsOnNumber (SameNumber file) = Unit {0}
+IsOnNumber other = ⊥
+
+-- the remark holds of a file, behind which come these files, and is of this kind
+abbrev pub HoldsAndIs : (Remark → Type 0) → FileSurvey → List FileSurvey → Remark → Type 0
+HoldsAndIs P f later r = HoldsOfFile f later r × P r
+
+-- on each of these files in turn one remark at most of each of three kinds
 abbrev pub AreOnEach : List FileSurvey → List Remark → Type 0
 AreOnEach [] told = told ≡ []
-AreOnEach (f ∷ later) told = (own : List Remark) × (others : List Remark) × (told ≡ own ++ others) × IsAtMostOne (HoldsOfFile f later) own × AreOnEach later others
+AreOnEach (f ∷ later) told = (unread : List Remark) × (found : List Remark) × (behind : List Remark) × (others : List Remark) × (told ≡ unread ++ (found ++ (behind ++ others)))
+    × IsAtMostOne (HoldsAndIs IsOnUnread f later) unread × IsAtMostOne (HoldsAndIs IsOnContents f later) found × IsAtMostOne (HoldsAndIs IsOnNumber f later) behind × AreOnEach later others
 
 -- The remarks are in this order, each once.
 pub record AreInOrder (files : List FileSurvey) (told : List Remark) : Type 0 where

@@ -3,15 +3,17 @@
 ghost use Rattle.std.specs.Prelude.{◌≡◌, ℕ, IfOk, List, OnOk, length, string_bytes};
 ghost use Rattle.serde_json.specs.Data.{no_members, object, string};
 ghost use Rattle.serde_json.specs.View.{members_view, view};
-ghost use Rattle.survey_commands.specs.Documents.{IsDocument, array_of, count_data, count_members, damage_data, document_members, file_data, file_members, file_word, name_members, or_null, size_members, skipped_data, sums_members, survey_members, time_members, with_members};
+ghost use Rattle.survey_commands.specs.Documents.{IsDocument, array_of, count_data, count_members, damage_data, document_members, fault_name as name_of_fault, fault_number as number_of_fault, file_data, file_members, file_word, name_members, or_null, readable_data, size_members, skipped_data, sums_members, survey_members, time_members, unread_data, with_members};
 
+use crate::notes::push_remark;
 use crate::remarks::Remark;
-use crate::report::push_remark;
 use log_inspection::{FileSurvey, Inspection, Sums, sums_of};
-use log_survey::{KindCount, SkippedCount, Survey};
+use log_survey::{KindCount, Readable, SkippedCount, Survey};
+use log_unpacking::{UnpackDamage, UnpackFault};
+use prom_store::Unread;
 use serde_json::{Map, Value, json, put};
 use std::alloc::{AllocError, Global};
-use wal_log::Damage;
+use wal_page::FaultKind;
 
 fn count_value(alloc: Global, count: KindCount) -> Result<Value, AllocError>
     ensures { IfOk result (λ v. view v ≡ count_data count) }
@@ -81,14 +83,68 @@ fn all_skipped_value(alloc: Global, skipped: &[SkippedCount]) -> Result<Value, A
     Ok(Value::from(list))
 }
 
-fn damage_value(alloc: Global, damage: Option<Damage>) -> Result<Value, AllocError>
+// Returns the number of the kind of a fault, if it has one.
+fn fault_number(fault: UnpackFault) -> Option<u8>
+    ensures { result ≡ number_of_fault fault }
+{
+    match fault {
+        UnpackFault::InFile(kind) => Some(kind.number()),
+        UnpackFault::BadRecord => Some(FaultKind::BadRecord.number()),
+        _ => None,
+    }
+}
+
+// Returns the name of a fault.
+fn fault_name(fault: UnpackFault) -> &'static str
+    ensures { result.now ≡ name_of_fault fault }
+{
+    match fault {
+        UnpackFault::InFile(kind) => kind.name(),
+        UnpackFault::BadRecord => FaultKind::BadRecord.name(),
+        UnpackFault::Mixed => "Mixed",
+        UnpackFault::BadBlock(_) => "BadBlock",
+        UnpackFault::Hole => "Hole",
+    }
+}
+
+fn damage_value(alloc: Global, damage: Option<UnpackDamage>) -> Result<Value, AllocError>
     ensures { IfOk result (λ v. view v ≡ or_null damage_data damage) }
 {
-    let Some(Damage { place, kind }) = damage else {
+    let Some(UnpackDamage { offset, fault }) = damage else {
         return Ok(Value::Null);
     };
-    let (offset, number, name) = (place.offset, kind.number(), kind.name());
+    let (number, name) = (fault_number(fault), fault_name(fault));
     json!(in alloc; {"offset": offset, "kind": number, "name": name})
+}
+
+// Returns how much of a file can be read.
+fn readable_value(alloc: Global, readable: Readable) -> Result<Value, AllocError>
+    ensures { IfOk result (λ v. view v ≡ readable_data readable) }
+{
+    let Readable {
+        records,
+        samples,
+        places,
+        passed,
+    } = readable;
+    json!(in alloc; {"records": records, "samples": samples, "places": places, "passed": passed})
+}
+
+fn unread_value(alloc: Global, unread: Unread) -> Result<Value, AllocError>
+    ensures { IfOk result (λ v. view v ≡ unread_data unread) }
+{
+    json!(in alloc; {"offset": unread.offset, "bytes": unread.bytes})
+}
+
+// Returns what of a file cannot be read.
+fn all_unread_value(alloc: Global, unread: &[Unread]) -> Result<Value, AllocError>
+    ensures { IfOk result (λ v. view v ≡ array_of unread_data unread.now) }
+{
+    let mut list = Vec::new(alloc);
+    for part in unread {
+        list.push(unread_value(alloc, *part)?)?;
+    }
+    Ok(Value::from(list))
 }
 
 // Returns the word for a file of the checkpoint, or for a segment.
@@ -129,7 +185,9 @@ fn put_survey(
     put(members, alloc, "skipped", skipped)?;
     put_times(members, alloc, survey.times)?;
     let damage = damage_value(alloc, survey.damage)?;
-    put(members, alloc, "damage", damage)
+    put(members, alloc, "damage", damage)?;
+    let readable = readable_value(alloc, survey.readable)?;
+    put(members, alloc, "readable", readable)
 }
 
 // Adds the members of a file.
@@ -143,7 +201,8 @@ fn put_file(
     put_name(members, alloc, file.in_checkpoint, file.number)?;
     put_size(members, alloc, file.bytes, file.pages)?;
     put_survey(members, alloc, &file.survey)?;
-    put(members, alloc, "unpacked", Value::from(file.unpacked))
+    let unread = all_unread_value(alloc, &file.unread)?;
+    put(members, alloc, "unread", unread)
 }
 
 fn file_value(alloc: Global, file: &FileSurvey) -> Result<Value, AllocError>

@@ -3,8 +3,10 @@
 
 mod commands;
 mod json;
+mod notes;
+mod on_file;
 mod remarks;
 mod report;
 
 pub use commands::carry_out_inspect;
-pub use remarks::{NumberedFile, Remark, remarks_on};
+pub use remarks::{FileDamage, NumberedFile, Remark, remarks_on};

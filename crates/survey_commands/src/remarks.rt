@@ -2,16 +2,17 @@
 
 ghost use Rattle.std.specs.Prelude.{◌≡◌, ◌↔◌, ◌^◌, ◌++◌, Contains, [], IfNone, IfOk, IfSome, OnOk};
 ghost use Rattle.wal_log.specs.Inputs.{following};
-ghost use Rattle.survey_commands.specs.Remarks.{AreInOrder, Holds, are_read as are_all_read, file_of as file_named, first_segment, has_checkpoint_file as has_file_in_checkpoint, hides_records as may_hide_records, is_torn as is_torn_end};
-ghost use Rattle.survey_commands.specs.Remarking.{blank_remark, checkpoint_remark, damage_remark, empty_remark, file_remark, file_remarks, first_remark, log_remark, passed_remark, some_of, unbound_remark};
+ghost use Rattle.survey_commands.specs.Remarks.{AreInOrder, Holds, first_segment};
+ghost use Rattle.survey_commands.specs.Remarking.{checkpoint_remark, file_remarks, first_remark, log_remark, passed_remark, some_of, unbound_remark};
 
+use crate::on_file::{add_on_file, are_read, has_checkpoint_file};
 use log_inspection::{FileSurvey, Inspection};
 use log_references::{Unbound, UnboundReference};
-use prom_store::Status;
+use log_survey::Readable;
+use log_unpacking::UnpackDamage;
+use prom_store::{Status, Unread};
 use std::alloc::{AllocError, Global};
 use std::fmt;
-use wal_log::Damage;
-use wal_page::FaultKind;
 
 /// A file of a log: whether it is one of the checkpoint's or a segment, and its number.
 #[derive(Clone, Copy, Debug, PartialEq, Eq)]
@@ -29,6 +30,14 @@ impl fmt::Display for NumberedFile {
         };
         write!(f, "{kind} {:08}", self.number)
     }
+}
+
+/// Damage of a file, the first, and how much of the file can be read, also behind damage.
+#[derive(Clone, Copy, Debug, PartialEq, Eq)]
+pub struct FileDamage {
+    pub file: NumberedFile,
+    pub damage: UnpackDamage,
+    pub readable: Readable,
 }
 
 /// What the figures of a log may mean: each remark says that something is missing, or that it may be.
@@ -55,85 +64,34 @@ pub enum Remark {
     PassedOver {
         segments: u64,
     },
+    /// A part of a file cannot be read, or nothing of it: `unread` is the first such part.
+    Unread {
+        file: NumberedFile,
+        unread: Unread,
+    },
     /// A file of the checkpoint before its last one has no bytes.
     Empty(NumberedFile),
     /// A file before the last one has zeros alone.
     Zeros(NumberedFile),
     /// The last file ends inside a record, as a crash leaves it.
-    TornEnd(Damage),
-    /// A record is compressed, and what is behind it in its file was not read.
-    Compressed(Damage),
-    /// A file is damaged in another way.
-    Damaged(Damage),
-    /// So many references of samples are bound by no series entry that was read, and this is the first of them. `all_read` says whether
-    /// damage hides no record: not if a file but the last has damage, or the last has any but a torn end.
+    TornEnd(FileDamage),
+    /// A file is damaged in another way, or has a hole.
+    Damaged(FileDamage),
+    /// The files with the numbers `from` to `to` are missing between two files that are there, both segments or both the checkpoint's.
+    Gap {
+        from: u64,
+        to: u64,
+        in_checkpoint: bool,
+    },
+    /// This file and the next one, both segments or both the checkpoint's, have one number.
+    SameNumber(NumberedFile),
+    /// So many references of samples are bound by no series entry that was read, and this is the first of them. `all_read` says whether no
+    /// record is hidden: not if a file cannot be read whole, if a file but the last has damage, or if the last has any but a torn end.
     UnboundReferences {
         references: u64,
         first: UnboundReference,
         all_read: bool,
     },
-}
-
-/// Returns the file whose survey this is.
-pub(crate) fn file_of(file: &FileSurvey) -> NumberedFile
-    ensures { result ≡ file_named file.now }
-{
-    NumberedFile {
-        in_checkpoint: file.in_checkpoint,
-        number: file.number,
-    }
-}
-
-// Returns the remark on damage in a file, which is the last one or not.
-fn of_damage(damage: Damage, is_last: bool) -> Remark
-    ensures { result ≡ damage_remark damage.kind is_last damage }
-{
-    match (damage.kind, is_last) {
-        (FaultKind::Compressed, _) => Remark::Compressed(damage),
-        (FaultKind::Torn, true) => Remark::TornEnd(damage),
-        _ => Remark::Damaged(damage),
-    }
-}
-
-// Returns whether one of the files is the checkpoint's.
-fn has_checkpoint_file(files: &[FileSurvey]) -> bool
-    ensures { result ≡ has_file_in_checkpoint files.now }
-{
-    files.iter().any(|file| file.in_checkpoint)
-}
-
-// Returns the remark on a file of no bytes, if there is one. A server leaves an empty segment at each start without writes.
-fn of_empty(file: &FileSurvey, later: &[FileSurvey]) -> Option<Remark>
-    ensures { result ≡ empty_remark file.now later.now }
-{
-    if file.in_checkpoint && has_checkpoint_file(later) {
-        Some(Remark::Empty(file_of(file)))
-    } else {
-        None
-    }
-}
-
-// Returns the remark on a file without damage, behind which come these files, if there is one.
-fn of_blank(file: &FileSurvey, later: &[FileSurvey]) -> Option<Remark>
-    ensures { result ≡ blank_remark file.now later.now }
-{
-    if file.bytes == 0 {
-        of_empty(file, later)
-    } else if file.is_zeros && !later.is_empty() {
-        Some(Remark::Zeros(file_of(file)))
-    } else {
-        None
-    }
-}
-
-// Returns the remark on a file, behind which come these files, if there is one.
-fn of_file(file: &FileSurvey, later: &[FileSurvey]) -> Option<Remark>
-    ensures { result ≡ file_remark file.now later.now }
-{
-    match file.survey.damage {
-        Some(damage) => Some(of_damage(damage, later.is_empty())),
-        None => of_blank(file, later),
-    }
 }
 
 // Returns the number of the segment behind a checkpoint, or 0 without one. `None` if that would be 2^64.
@@ -207,36 +165,6 @@ fn of_passed(segments: u64) -> Option<Remark>
     }
 }
 
-// Returns whether a file ends inside a record.
-fn is_torn(kind: FaultKind) -> bool
-    ensures { result ≡ is_torn_end kind }
-{
-    matches!(kind, FaultKind::Torn)
-}
-
-// Returns whether damage of a file, which is the last one or not, may hide records.
-fn hides_records(damage: Option<Damage>, is_last: bool) -> bool
-    ensures { result ≡ may_hide_records damage is_last }
-{
-    match damage {
-        None => false,
-        Some(damage) => !(is_last && is_torn(damage.kind)),
-    }
-}
-
-// Returns whether all records of the files were read.
-fn are_read(files: &[FileSurvey]) -> bool
-    ensures { result ≡ are_all_read files.now }
-{
-    for at in 0..files.len() {
-        let (_, later) = files.split_at(at + 1);
-        if hides_records(files[at].survey.damage, later.is_empty()) {
-            return false;
-        }
-    }
-    true
-}
-
 // Returns the remark on references that are not bound in these files, if there is one. In a `wbl` there is none: its references are bound in
 // the directory `wal`, elsewhere.
 fn of_unbound(unbound: Unbound, is_elsewhere: bool, files: &[FileSurvey]) -> Option<Remark>
@@ -254,8 +182,8 @@ fn of_unbound(unbound: Unbound, is_elsewhere: bool, files: &[FileSurvey]) -> Opt
     })
 }
 
-// Adds a remark, if there is one.
-fn add(told: &mut Vec<Remark>, remark: Option<Remark>) -> Result<(), AllocError>
+/// Adds a remark, if there is one.
+pub(crate) fn add(told: &mut Vec<Remark>, remark: Option<Remark>) -> Result<(), AllocError>
     ensures { OnOk result (told.new.items ≡ told.old.items ++ some_of remark) }
 {
     if let Some(remark) = remark {
@@ -270,7 +198,7 @@ fn add_of_files(told: &mut Vec<Remark>, files: &[FileSurvey]) -> Result<(), Allo
 {
     for at in 0..files.len() {
         let (_, later) = files.split_at(at + 1);
-        add(told, of_file(&files[at], later))?;
+        add_on_file(told, &files[at], later)?;
     }
     Ok(())
 }

@@ -1,20 +1,13 @@
 //! The text that the command prints.
 
-use crate::remarks::{NumberedFile, Remark, file_of};
+use crate::notes::push_remark;
+use crate::on_file::file_of;
+use crate::remarks::Remark;
 use jiff::Timestamp;
 use log_inspection::{FileSurvey, Inspection, Sums, skipped_records, sums_of};
-use log_references::UnboundReference;
-use log_survey::{KindCount, SkippedCount};
+use log_survey::{KindCount, Readable, SkippedCount, Survey};
+use log_unpacking::UnpackDamage;
 use std::alloc::{AllocError, Global};
-use wal_log::{Damage, Place};
-
-// Returns the file of a place.
-fn file_at(place: Place) -> NumberedFile {
-    NumberedFile {
-        in_checkpoint: place.in_checkpoint,
-        number: place.file,
-    }
-}
 
 // Appends a time in milliseconds, and as a date and time of day in UTC with three decimals, or `none` if it is past the years of the
 // calendar.
@@ -55,25 +48,28 @@ fn push_types(text: &mut String, skipped: &[SkippedCount]) -> Result<(), AllocEr
     Ok(())
 }
 
-fn push_damage(text: &mut String, damage: Option<Damage>) -> Result<(), AllocError> {
-    let Some(damage) = damage else {
-        return text.push_str(" damage none");
-    };
-    let (offset, number, name) = (
-        damage.place.offset,
-        damage.kind.number(),
-        damage.kind.name(),
-    );
-    write!(text, " damage offset {offset} kind {number} {name}")?;
+// Appends how much of a file can be read.
+fn push_readable(text: &mut String, readable: Readable) -> Result<(), AllocError> {
+    let Readable {
+        records,
+        samples,
+        passed,
+        ..
+    } = readable;
+    write!(
+        text,
+        " readable records {records} samples {samples} passed {passed}"
+    )?;
     Ok(())
 }
 
-// Ends the line of a file: with the number of its records, if some are compressed.
-fn push_unpacked(text: &mut String, records: Option<u64>) -> Result<(), AllocError> {
-    match records {
-        Some(records) => writeln!(text, " unpacked {records}"),
-        None => text.push('\n'),
-    }
+// Appends the damage of a file, and then how much of the file can be read, or `none`.
+fn push_damage(text: &mut String, survey: &Survey) -> Result<(), AllocError> {
+    let Some(UnpackDamage { offset, fault }) = survey.damage else {
+        return text.push_str(" damage none");
+    };
+    write!(text, " damage offset {offset} {fault}")?;
+    push_readable(text, survey.readable)
 }
 
 // Appends the line of a file: its length, its records and their entries by kind, its times and its damage.
@@ -87,8 +83,8 @@ fn push_file(text: &mut String, file: &FileSurvey) -> Result<(), AllocError> {
     write!(text, " skipped {}", skipped_records(&survey.skipped)?)?;
     push_types(text, &survey.skipped)?;
     push_times(text, survey.times)?;
-    push_damage(text, survey.damage)?;
-    push_unpacked(text, file.unpacked)
+    push_damage(text, survey)?;
+    text.push('\n')
 }
 
 // Appends the line of all files together.
@@ -106,145 +102,6 @@ fn push_sums(text: &mut String, sums: &Sums) -> Result<(), AllocError> {
     write!(text, " skipped {}", sums.skipped)?;
     push_times(text, sums.times)?;
     text.push('\n')
-}
-
-// Appends that the directory has no log.
-fn push_no_log(text: &mut String, has_wal: bool) -> Result<(), AllocError> {
-    text.push_str("no file of a log is here")?;
-    if has_wal {
-        text.push_str(": did you mean wal, which is in this directory?")?;
-    }
-    Ok(())
-}
-
-// Appends that segments are missing.
-fn push_missing(text: &mut String, from: u64, first: u64) -> Result<(), AllocError> {
-    write!(
-        text,
-        "segments are missing from {from:08} up to {first:08}, which is the first: what they held may be lost"
-    )?;
-    Ok(())
-}
-
-// Appends that no segment is past the checkpoint.
-fn push_none_behind(text: &mut String, next: u64) -> Result<(), AllocError> {
-    write!(
-        text,
-        "no segment is past the checkpoint: a server begins again at 00000000, and loses that at its next start, unless an empty segment {next:08} is made first"
-    )?;
-    Ok(())
-}
-
-// Appends that the checkpoint's directory has no file.
-fn push_empty_checkpoint(text: &mut String, checkpoint: u64) -> Result<(), AllocError> {
-    write!(
-        text,
-        "checkpoint.{checkpoint:08} has no file: what it held may be lost"
-    )?;
-    Ok(())
-}
-
-// Appends that segments are not past the checkpoint.
-fn push_passed(text: &mut String, segments: u64) -> Result<(), AllocError> {
-    let (are, them) = if segments == 1 {
-        ("segment is", "it")
-    } else {
-        ("segments are", "them")
-    };
-    write!(
-        text,
-        "{segments} {are} not past the checkpoint, and no server reads {them}: what was written to {them} since is lost"
-    )?;
-    Ok(())
-}
-
-// Appends that a file has nothing in it.
-fn push_blank(text: &mut String, file: NumberedFile, what: &str) -> Result<(), AllocError> {
-    write!(
-        text,
-        "{file} {what} and is not the last file: what it held may be lost"
-    )?;
-    Ok(())
-}
-
-// Appends what damage there is in a file.
-fn push_found(
-    text: &mut String,
-    damage: Damage,
-    what: &str,
-    means: &str,
-) -> Result<(), AllocError> {
-    let file = file_at(damage.place);
-    let offset = damage.place.offset;
-    write!(text, "{file} {what} at {offset}: {means}")?;
-    Ok(())
-}
-
-// Appends how many references are not bound.
-fn push_many(text: &mut String, references: u64, all_read: bool) -> Result<(), AllocError> {
-    let noun = if references == 1 {
-        "reference"
-    } else {
-        "references"
-    };
-    let record = if all_read {
-        "no series record"
-    } else {
-        "no series record of those that were read"
-    };
-    write!(text, "samples name {references} {noun} that {record} binds")?;
-    if references == 1 {
-        return text.push_str(",");
-    }
-    text.push_str(", the first,")
-}
-
-// Appends that samples name references that are not bound.
-fn push_unbound(
-    text: &mut String,
-    references: u64,
-    first: UnboundReference,
-    all_read: bool,
-) -> Result<(), AllocError> {
-    push_many(text, references, all_read)?;
-    let UnboundReference { reference, place } = first;
-    let (file, offset) = (file_at(place), place.offset);
-    write!(text, " {reference}, in {file} at {offset}: ")?;
-    text.push_str(if all_read {
-        "they are lost in a replay"
-    } else {
-        "one that was not read may bind them"
-    })
-}
-
-const TORN: &str = "as a crash leaves it, and that record is lost";
-
-const COMPRESSED: &str =
-    "it was not read, nor what follows in the file: `unpack` reads such records, if Snappy compressed them";
-
-const DAMAGED: &str = "what follows in the file was not read";
-
-/// Appends the text of a remark.
-pub(crate) fn push_remark(text: &mut String, remark: &Remark) -> Result<(), AllocError> {
-    match remark {
-        Remark::NoLog { has_wal } => push_no_log(text, *has_wal),
-        Remark::SegmentsMissing { from, first } => push_missing(text, *from, *first),
-        Remark::NoneBehind { next } => push_none_behind(text, *next),
-        Remark::EmptyCheckpoint { checkpoint } => push_empty_checkpoint(text, *checkpoint),
-        Remark::PassedOver { segments } => push_passed(text, *segments),
-        Remark::Empty(file) => push_blank(text, *file, "is empty"),
-        Remark::Zeros(file) => push_blank(text, *file, "has only zeros"),
-        Remark::TornEnd(damage) => push_found(text, *damage, "ends inside a record", TORN),
-        Remark::Compressed(damage) => {
-            push_found(text, *damage, "has a compressed record", COMPRESSED)
-        }
-        Remark::Damaged(damage) => push_found(text, *damage, "is damaged", DAMAGED),
-        Remark::UnboundReferences {
-            references,
-            first,
-            all_read,
-        } => push_unbound(text, *references, *first, *all_read),
-    }
 }
 
 // Appends the line of a remark.

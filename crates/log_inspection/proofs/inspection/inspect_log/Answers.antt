@@ -4,19 +4,20 @@ use Rattle.std.specs.Prelude.{string_bytes}
 use Rattle.std.proofs.lemmas.Int.{to_z-of_z}
 use Rattle.std.specs.Option.{option_map}
 use Rattle.std.specs.List.{count_by, list_any}
-use Rattle.wal_log.specs.Plan.{IsDirPlan, named as name_of}
+use Rattle.wal_log.specs.Plan.{named as name_of}
 use Rattle.log_references.specs.Unbound.{AreReferencesOf}
 use Rattle.prom_store.specs.Views.{view_of}
+use Rattle.log_listing.specs.Listings.{IsListing}
 use Rattle.log_inspection.specs.Inspections.{is_passed_over, is_wal}
 use Rattle.log_inspection.proofs.Surveyed.{inspected}
 use Rattle.log_inspection.proofs.inspection.inspect_log.Goals as goal
 
 pub returns : goal.returns
 returns g c =
-    let plan = c.in_ok-plan.plan in
-    let checkpoint : c.map-checkpoint.result ≡ option_map (λ (n : Named). n.number) plan.checkpoint = search rules in
-    inspected (view_of (g.S.Store.holds c.args.store.now)) c.args.dir.now c.args.min_valid c.in_ok-names.names.items plan _ c.new-references.result c.survey_planned.new.references c.in_ok-names.ensures
-    (subst (λ names. IsDirPlan (map string_bytes names) (option_map name_of plan.checkpoint) (map name_of plan.segments)) c.deref.ensures.value c.in_ok-plan.ensures)
+    let listing = c.in_ok-listing.listing in
+    let checkpoint : c.map-checkpoint.result ≡ option_map (λ (n : Named). n.number) listing.checkpoint = search rules in
+    inspected (view_of (g.S.Store.holds c.args.store.now)) c.args.dir.now c.args.min_valid c.in_ok-names.names.items listing _ c.new-references.result c.in_ok-files.references c.in_ok-names.ensures
+    (subst (λ names. IsListing (map string_bytes names) (option_map name_of listing.checkpoint) (map name_of listing.segments.items)) c.deref.ensures.value c.in_ok-listing.ensures)
     checkpoint
     c.in_ok-files.ensures
     (subst (λ (m : ℤ). AreReferencesOf m [] c.new-references.result) (to_z-of_z w64 c.args.min_valid c.ranges.min_valid) c.new-references.ensures)

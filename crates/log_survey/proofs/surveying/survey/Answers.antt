@@ -1,18 +1,21 @@
-use Rattle.std.proofs.Common.{[], map}
-use Rattle.wal_page.specs.Pieces.{piece_value}
+use Rattle.std.proofs.Common.{[]}
+use Rattle.log_survey.specs.Taking.{Begun}
+use Rattle.log_survey.proofs.Taken.{as_survey, none_taken}
 use Rattle.log_survey.proofs.surveying.survey.Goals as goal
 
 pub returns : goal.returns
 returns c =
-    let took = c.in_ok-found.ensures in
-    let counted = took.1.counted [] c.new-survey.ensures in (
-      took.0,
+    let start : Begun = record { in_checkpoint = c.args.in_checkpoint; number = c.args.file.now.number; references = c.args.references } in
+    let took = c.in_ok-salvage.ensures start [] (none_taken start c.new.result c.new.ensures) in
+    rw c.finish.ensures (
+      took.1.placed,
       record {
-        pieces = map piece_value c.as_slice-pieces.result.now;
-        fault = c.in_ok-joined.joined.fault;
-        read = rw c.as_slice-pieces.ensures c.in_ok-joined.ensures;
-        spelled = rw c.damage_of-survey.ensures (took.2 c.in_ok-joined.joined.fault);
+        events = took.0;
+        salvaged = rw c.as_slice.ensures at took.2;
+        spelled = took.1.spelled;
+        counted = as_survey took.0 took.1.placed c.salvage.new.sink.survey took.1.counted;
+        damage = took.1.counted.damage;
+        readable = took.1.counted.readable;
       },
-      record { series = counted.series; samples = counted.samples; stones = counted.stones; skipped = counted.skipped; times = counted.times },
       took.1.taken,
     )

@@ -4,7 +4,7 @@ use Rattle.log_survey.specs.Surveys.{sample_entries, times_of}
 use Rattle.log_survey.proofs.Steps.{one_more, samples_more}
 use Rattle.log_survey.proofs.records.Survey.add_samples.Goals as goal
 
-pub returns : goal.returns
-returns c = λ records h.
+pub returns-clause-counted : goal.returns-clause-counted
+returns-clause-counted c = λ records h.
     let count : c.add.new.self ≡ one_more c.args.self.now.samples (length c.args.samples.now) = search rules in
     samples_more records c.args.self.now h c.args.samples.now c.add.new.self c.with_samples-self.result count (c.with_samples-self.ensures (times_of (filter_map sample_entries records)) h.times)
