@@ -1,8 +1,7 @@
 -- How a run ends, by its answer.
-use Rattle.std.specs.Prelude.{◌≡◌, ℕ, ◌∷◌, ◌++◌, Bool, true, false, Option, None, Some, IfSome, IsSome, List, [], OnOk, Result, Ok, Err, if◌then◌else◌, is_ok, refl, string_bytes}
+use Rattle.std.specs.Prelude.{◌≡◌, ℕ, ◌∷◌, ◌++◌, Bool, false, Option, None, Some, IfSome, IsSome, List, [], OnOk, Result, Ok, Err, if◌then◌else◌, is_ok, refl, string_bytes}
 use Rattle.std.proofs.Common.{ap, append_assoc, inl, inr, sym, ◌∙◌}
 use Rattle.std.proofs.lemmas.Bool.{false≢true}
-use Rattle.wal_log.specs.declared.input.Checkpoint.{Checkpoint}
 use Rattle.wal_log.specs.declared.input.Segment.{Segment}
 use Rattle.wal_log.specs.Plan.{NumberedName}
 use Rattle.prom_store.specs.Calls.{Call}
@@ -10,7 +9,6 @@ use Rattle.prom_store.specs.Found.{Found}
 use Rattle.prom_store.specs.Views.{view_of}
 use Rattle.prom_store.specs.declared.fault.Status.TheVariants.{Damaged, Done}
 use Rattle.prom_commands.specs.declared.commands.Answer.{Answer}
-use Rattle.unpack_commands.specs.declared.planned.PlannedCheckpoint.{PlannedCheckpoint}
 use Rattle.unpack_commands.specs.declared.planned.PlannedLog.{PlannedLog}
 use Rattle.unpack_commands.specs.declared.reading.FileDamage.{FileDamage}
 use Rattle.unpack_commands.specs.Folders.{ending_of}

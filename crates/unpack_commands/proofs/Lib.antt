@@ -8,3 +8,8 @@ pub mod Readable
 pub mod Results
 pub mod Since
 pub mod Whole
+pub mod Slotted
+pub mod Events
+pub mod LostLines
+pub mod Written
+pub mod Listed

@@ -1,6 +1,6 @@
 -- The folder of an unpacked log: how far it was begun, and what was left of it.
 use Rattle.std.specs.Prelude.{◌≡◌, ℕ, true, false, List, [], ◌∷◌, ◌++◌, Option, None, Some, is_some, Ok, Err, IsOk, refl}
-use Rattle.std.proofs.Common.{ap, subst, sym, ◌∙◌}
+use Rattle.std.proofs.Common.{ap, subst, sym}
 use Rattle.std.proofs.lemmas.Bool.{false≢true}
 use Rattle.wal_log.specs.declared.input.Checkpoint.{Checkpoint}
 use Rattle.wal_log.specs.declared.input.Segment.{Segment}
@@ -19,6 +19,8 @@ use Rattle.unpack_commands.specs.declared.planned.PlannedCheckpoint.{PlannedChec
 use Rattle.unpack_commands.specs.declared.reading.FileDamage.{FileDamage}
 use Rattle.unpack_commands.specs.Folders.{GivesUpLog, LeavesLog, LeavesOldOrLog, WritesLog, checkpoint_files, files_in, log_dirs, log_files}
 use Rattle.unpack_commands.specs.Logs.{AreUnpackedBehind, AreUnpackedIn}
+use Rattle.unpack_commands.specs.declared.rescue_writing.SlotCheckpoint.{SlotCheckpoint}
+use Rattle.unpack_commands.specs.RescueSteps.{with_slot_files}
 use Rattle.unpack_commands.specs.Steps.{with_files}
 use Rattle.unpack_commands.proofs.Inside.{log_inside}
 use Rattle.unpack_commands.proofs.Made.{calls_then}
@@ -65,20 +67,21 @@ module _ {S : Type 0} (did : S → List Call → S → Type 0) (both : (old midd
 
 -- ---- what is left of it
 
-same_dirs : (folder : List ℕ) (planned : Option PlannedCheckpoint) (inner : List Segment) → log_dirs folder (with_files planned []) ≡ log_dirs folder (with_files planned inner)
+pub same_dirs : (folder : List ℕ) (planned : Option PlannedCheckpoint) (inner : List Segment) → log_dirs folder (with_files planned []) ≡ log_dirs folder (with_files planned inner)
 same_dirs folder None inner = refl
 same_dirs folder (Some c) inner = refl
 
-module _ {S : Type 0} (did : S → List Call → S → Type 0) (old : S) (path folder : List ℕ) (dirs : List (List ℕ)) (planned : Option PlannedCheckpoint) (inner segments : List Segment)
-    (is : folder ≡ unfinished_of path) (are : dirs ≡ log_dirs folder (with_files planned [])) where
-  abbrev log : Option Checkpoint
-  log = with_files planned inner
+-- the directories don't depend on the files of the slots of a checkpoint
+pub same_slot_dirs : (folder : List ℕ) (slots : Option SlotCheckpoint) (inner : List Segment) → log_dirs folder (with_slot_files slots []) ≡ log_dirs folder (with_slot_files slots inner)
+same_slot_dirs folder None inner = refl
+same_slot_dirs folder (Some c) inner = refl
 
+module _ {S : Type 0} (did : S → List Call → S → Type 0) (old : S) (path folder : List ℕ) (dirs : List (List ℕ)) (log : Option Checkpoint) (segments : List Segment) (is : folder ≡ unfinished_of path) (are : dirs ≡ log_dirs folder log) where
   abbrev unfinished : List ℕ
   unfinished = unfinished_of path
 
   at_unfinished : (P : List ℕ → List (List ℕ) → Type 0) → P folder dirs → P unfinished (log_dirs unfinished log)
-  at_unfinished P has = subst (λ f. P f (log_dirs f log)) is (subst (λ ds. P folder ds) (are ∙ same_dirs folder planned inner) has)
+  at_unfinished P has = subst (λ f. P f (log_dirs f log)) is (subst (λ ds. P folder ds) are has)
 
   -- it was begun and given up
   pub given_up : (new : S) → DidFirst did old ((CreateDir folder ∷ create_dirs dirs) ++ files_calls (log_files folder log segments)) new → GivesUpLog did old path new

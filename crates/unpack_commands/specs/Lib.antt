@@ -3,3 +3,8 @@ pub mod Logs
 pub mod Folders
 pub mod Steps
 pub mod Told
+pub mod Rescued
+pub mod Rescues
+pub mod Slots
+pub mod Reports
+pub mod RescueSteps

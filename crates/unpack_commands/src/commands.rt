@@ -1,13 +1,15 @@
 //! The command `unpack`.
 
-ghost use Rattle.std.specs.Prelude.{MatchResult, Some, map};
+ghost use Rattle.std.specs.Prelude.{◌≡◌, MatchResult, Some, false, map, true};
 ghost use Rattle.std.specs.Option.{option_map};
 ghost use Rattle.wal_log.specs.Plan.{named as name_of};
 ghost use Rattle.unpack_commands.specs.Folders.{Unpacks, ending_of, failing};
 ghost use Rattle.unpack_commands.specs.Logs.{IsUnpackedPlan, seen_since};
+ghost use Rattle.unpack_commands.specs.Rescues.{Rescues, rescue_ending_of};
 ghost use Rattle.unpack_commands.specs.Steps.{IsUnpackedFrom, UnpacksInto};
 
 use crate::out::free_target;
+use crate::past_damage::rescue;
 use crate::planned::{PlannedCheckpoint, PlannedLog};
 use crate::reading::find_damage;
 use crate::report::damage_answer;
@@ -113,6 +115,26 @@ fn unpack<S: Store>(
     unpack_planned(alloc, store, request, &target, plan.checkpoint, segments)
 }
 
+// Carries out a request to unpack a log up to its first damage, or not at all.
+fn carry_out_whole<S: Store>(alloc: Global, store: &mut S, request: &UnpackRequest<'_>) -> Answer
+    ensures { Unpacks S.did S.holds store.old request.now (ending_of request.now.through_damage result) store.new }
+{
+    match unpack(alloc, store, request) {
+        Ok(answer) => answer,
+        Err(fault) => Answer::failed(alloc, fault),
+    }
+}
+
+// Carries out a request to write all that can be read of a log.
+fn carry_out_rescue<S: Store>(alloc: Global, store: &mut S, request: &UnpackRequest<'_>) -> Answer
+    ensures { Rescues S.did S.holds store.old request.now (rescue_ending_of result) store.new }
+{
+    match rescue(alloc, store, request) {
+        Ok(answer) => answer,
+        Err(fault) => Answer::failed(alloc, fault),
+    }
+}
+
 /// Carries out a request to unpack a log. Nothing is read or written if the name of `out` is that of a segment or of a checkpoint, which the
 /// folder would be taken for beside a log. If the status is `Done`, each file of the log stands for records up to its end, and a new folder
 /// at the path `out` has, under the number of each, the text of just these records. It is written in the order of `write_new_folder`: a crash
@@ -123,6 +145,10 @@ fn unpack<S: Store>(
 /// records. Unless what is before damage is wanted, all files are read and unpacked once before anything is written, up to
 /// the first damage, so the log is then read twice.
 ///
+/// If all that can be read is wanted, nothing is read before it is written, and no damage, gap or file that cannot be read is a fault: what is
+/// lost is told, a line for each part. A missing segment is written as an empty one, behind a checkpoint one at least, so that the folder has a
+/// sound log.
+///
 /// All names are listed before anything is written. No contract of a store says that what it holds outlasts a write: each file of the folder
 /// is the text of what the store held at some moment of the call. If a file changes between the two times that it is read, what it was the
 /// second time is written; if it is damaged then, the call fails with the path of the file, and nothing is at `out` but what was there.
@@ -131,10 +157,12 @@ pub fn carry_out_unpack<S: Store>(
     store: &mut S,
     request: UnpackRequest<'_>,
 ) -> Answer
-    ensures { Unpacks S.did S.holds store.old request.entry (ending_of request.entry.through_damage result) store.new }
+    ensures unpacks { request.entry.past_damage ≡ false → Unpacks S.did S.holds store.old request.entry (ending_of request.entry.through_damage result) store.new }
+    ensures rescues { request.entry.past_damage ≡ true → Rescues S.did S.holds store.old request.entry (rescue_ending_of result) store.new }
 {
-    match unpack(alloc, store, &request) {
-        Ok(answer) => answer,
-        Err(fault) => Answer::failed(alloc, fault),
+    if request.past_damage {
+        carry_out_rescue(alloc, store, &request)
+    } else {
+        carry_out_whole(alloc, store, &request)
     }
 }

@@ -36,6 +36,26 @@ impl Totals {
         };
         Ok(())
     }
+
+    /// Appends the totals, and how many references no series record binds.
+    pub(crate) fn push(self, text: &mut String, unbound: u64) -> Result<(), AllocError>
+        ensures { OnOk result ((more : List ℕ) × (string_bytes text.new ≡ string_bytes text.old ++ more)) }
+    {
+        let Totals {
+            files,
+            records,
+            bytes,
+        } = self;
+        push_numbers(
+            text,
+            &[
+                ("files", files),
+                ("records", records),
+                ("bytes", bytes),
+                ("unbound", unbound),
+            ],
+        )
+    }
 }
 
 // Returns the sum of two numbers, or an error if there is none of 64 bits.
