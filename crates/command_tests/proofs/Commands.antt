@@ -16,11 +16,13 @@ use Rattle.prom_commands.specs.Directory.{IsLogIn}
 use Rattle.live_commands.specs.Crashes.{IfFree, IfStood, OutlastsAppend, OutlastsCheckpoint, ReplaysAlike, ReplaysOldOrRows, ReplaysRows}
 use Rattle.block_commands.specs.Folders.{Cuts, LeavesBlock, LeavesOldOrBlock}
 use Rattle.unpack_commands.specs.Folders.{Ending, LeavesLog, LeavesOldBesideLog, LeavesOldOrLog, Unpacks}
+use Rattle.unpack_commands.specs.Rescues.{RescueEnding, Rescues}
 use Rattle.command_tests.specs.Listings.{Did, HoldsAt, file_of, standing_in}
 use Rattle.command_tests.specs.Noted.{calls_of}
-use Rattle.command_tests.specs.Outlasts.{AppendOutlasts, CheckpointOutlasts, CutOutlasts, MakesNone, Outlasts, StaysAlike, UnpackOutlasts}
+use Rattle.command_tests.specs.Outlasts.{AppendOutlasts, CheckpointOutlasts, CutOutlasts, MakesNone, Outlasts, RescueOutlasts, StaysAlike, UnpackOutlasts}
 use Rattle.command_tests.specs.declared.listing.Listing.{Listing}
 use Rattle.command_tests.proofs.Crashed.{outlasts}
+use Rattle.command_tests.proofs.Rescued.{seen_rescued}
 use Rattle.command_tests.proofs.Unpacked.{seen_unpacked}
 
 abbrev pub Holds : Listing → List ℕ → Found → Type 0
@@ -88,6 +90,13 @@ module _ (old new : Listing) (W : Type 0) (none : old.calls.items ≡ []) (first
   unpack_lasts request end (inr (path, out, inl (checkpoint, segments, damage, is, tells, whole, safe))) =
       inr (path, out, inl (checkpoint, segments, damage, seen_unpacked old first request.dir.now checkpoint segments damage is, tells, whole, outlasts old new (LeavesOldOrLog path checkpoint segments) (LeavesLog path checkpoint segments) end.well none first safe))
   unpack_lasts request end (inr (path, out, inr ((checkpoint, segments, safe), untold, failed))) =
+      inr (path, out, inr (checkpoint, segments, outlasts old new (LeavesOldBesideLog path checkpoint segments) (LeavesOldBesideLog path checkpoint segments) ⊥ none first safe, untold, failed))
+
+  pub rescue_lasts : (request : UnpackRequest) (end : RescueEnding) → Rescues Did Holds old request end new → RescueOutlasts request files calls later end
+  rescue_lasts request end (inl (same, untold, failed)) = inl (makes_none same, untold, failed)
+  rescue_lasts request end (inr (path, out, inl (checkpoint, segments, lost, is, tells, safe))) =
+      inr (path, out, inl (checkpoint, segments, lost, seen_rescued old first request.dir.now checkpoint segments lost is, tells, outlasts old new (LeavesOldOrLog path checkpoint segments) (LeavesLog path checkpoint segments) end.well none first safe))
+  rescue_lasts request end (inr (path, out, inr ((checkpoint, segments, safe), untold, failed))) =
       inr (path, out, inr (checkpoint, segments, outlasts old new (LeavesOldBesideLog path checkpoint segments) (LeavesOldBesideLog path checkpoint segments) ⊥ none first safe, untold, failed))
 
 -- what is so of four values is so of others that are the same

@@ -4,3 +4,4 @@ pub mod Listings
 pub mod ListLemmas
 pub mod Takes
 pub mod Unpacked
+pub mod Rescued

@@ -27,6 +27,9 @@ use Rattle.live_commands.specs.RowTexts.{AreRowsAt}
 use Rattle.block_commands.specs.Folders.{IsFreeIn as IsFreeForBlock, LeavesBlock, LeavesOldOrBlock}
 use Rattle.unpack_commands.specs.declared.reading.FileDamage.{FileDamage}
 use Rattle.unpack_commands.specs.Folders.{Ending, IsOut, LeavesLog, LeavesOldBesideLog, LeavesOldOrLog}
+use Rattle.unpack_commands.specs.declared.lost.Lost.{Lost}
+use Rattle.unpack_commands.specs.Rescued.{IsRescuedLogIn}
+use Rattle.unpack_commands.specs.Rescues.{RescueEnding}
 use Rattle.unpack_commands.specs.Logs.{IsUnpackedLogIn}
 use Rattle.command_tests.specs.Listings.{HoldsAt, Relists, standing_in}
 
@@ -105,5 +108,19 @@ UnpackOutlasts request files calls later end =
     ⊎ ((path : List ℕ) × IsOut request.out.now path
     × (((checkpoint : Option Checkpoint) × (segments : List Segment) × (damage : Option FileDamage) × IsUnpackedLogIn (seen_from files) request.dir.now checkpoint segments damage
     × end.tells damage × (request.through_damage ≡ false → damage ≡ None) × Outlasts files calls later (LeavesOldOrLog path checkpoint segments) (LeavesLog path checkpoint segments) end.well)
+    ⊎ ((checkpoint : Option Checkpoint) × (segments : List Segment) × Outlasts files calls later (LeavesOldBesideLog path checkpoint segments) (LeavesOldBesideLog path checkpoint segments) ⊥
+    × (end.told → ⊥) × (end.well → ⊥))))
+
+-- ---- of `unpack --past-damage`
+
+-- No call was made, since the run failed before. Or all that can be read of the log in the directory was written, with what is told to be lost,
+-- and whenever a crash comes, at the new path stands what stood there, or a folder with what was written; and if all went well, the folder. Or
+-- it was given up, and whenever a crash comes, at the new path stands what stood there.
+abbrev pub RescueOutlasts : UnpackRequest → List FileAt → List Call → List FileAt → RescueEnding → Type 0
+RescueOutlasts request files calls later end =
+    (MakesNone files calls later × (end.told → ⊥) × (end.well → ⊥))
+    ⊎ ((path : List ℕ) × IsOut request.out.now path
+    × (((checkpoint : Option Checkpoint) × (segments : List Segment) × (lost : List Lost) × IsRescuedLogIn (seen_from files) request.dir.now checkpoint segments lost
+    × end.tells lost × Outlasts files calls later (LeavesOldOrLog path checkpoint segments) (LeavesLog path checkpoint segments) end.well)
     ⊎ ((checkpoint : Option Checkpoint) × (segments : List Segment) × Outlasts files calls later (LeavesOldBesideLog path checkpoint segments) (LeavesOldBesideLog path checkpoint segments) ⊥
     × (end.told → ⊥) × (end.well → ⊥))))

@@ -2,7 +2,9 @@
 
 use crate::checks::{ULID, assert_names, has_name, same};
 use crate::fragments::*;
-use crate::runs::{APPEND, CHECKPOINT, CUT, Case, UNPACK, carried_out, complaint, shelf_of};
+use crate::runs::{
+    APPEND, CHECKPOINT, CUT, Case, RESCUE, UNPACK, carried_out, complaint, shelf_of,
+};
 use crate::shelf::Shelf;
 use crate::tree::Kept;
 use block_commands::BlockRequest;
@@ -214,9 +216,10 @@ fn crash_at_each_call_of_checkpoint(rt: HostRuntime) -> Result<(), StoreFault> {
 // The log is whole at its new place, or it is not there. It is there where the run had ended well.
 fn assert_unpacked<R: Abort + Threads + Wait + Sync + AllocGlobal>(
     rt: &R,
+    case: &Case,
     crash: Crash,
 ) -> Result<(), StoreFault> {
-    let (shelf, is_done) = crashed(rt, &UNPACK, crash)?;
+    let (shelf, is_done) = crashed(rt, case, crash)?;
     let is_there = has_name(&shelf, "out", "log")?;
     same(rt, crash, is_there || !is_done, true);
     if is_there {
@@ -232,7 +235,18 @@ fn assert_unpacked<R: Abort + Threads + Wait + Sync + AllocGlobal>(
 fn crash_at_each_call_of_unpack(rt: HostRuntime) -> Result<(), StoreFault> {
     for call in 1..21 {
         for kept in WAYS {
-            assert_unpacked(&rt, (call, *kept))?;
+            assert_unpacked(&rt, &UNPACK, (call, *kept))?;
+        }
+    }
+    Ok(())
+}
+
+// The files are read once, so there are fewer calls.
+#[test]
+fn crash_at_each_call_of_unpack_past_damage(rt: HostRuntime) -> Result<(), StoreFault> {
+    for call in 1..20 {
+        for kept in WAYS {
+            assert_unpacked(&rt, &RESCUE, (call, *kept))?;
         }
     }
     Ok(())

@@ -135,18 +135,26 @@ const INSPECT: Case = Case {
 const INSPECTED: &str = "\
 checkpoint 00000000 bytes 7 pages 1 series 0 0 samples 0 0 deletions 0 0 skipped 1 empty 1 first none last none damage none
 segment 00000005 bytes 7 pages 1 series 0 0 samples 0 0 deletions 0 0 skipped 1 empty 1 first none last none damage none
-segment 00000006 bytes 1 pages 1 series 0 0 samples 0 0 deletions 0 0 skipped 0 first none last none damage offset 0 kind 3 BadType
-segment 00000007 bytes 1 pages 1 series 0 0 samples 0 0 deletions 0 0 skipped 0 first none last none damage offset 0 kind 3 BadType
-all files 4 bytes 16 pages 4 series 0 0 samples 0 0 deletions 0 0 skipped 2 first none last none
-note segment 00000006 is damaged at 0: what follows in the file was not read
-note segment 00000007 is damaged at 0: what follows in the file was not read
+segment 00000006 bytes 1 pages 1 series 0 0 samples 0 0 deletions 0 0 skipped 0 first none last none damage offset 0 kind 3 BadType readable records 0 samples 0 passed 1
+segment 00000007 bytes 0 pages 0 series 0 0 samples 0 0 deletions 0 0 skipped 0 first none last none damage none
+all files 4 bytes 15 pages 3 series 0 0 samples 0 0 deletions 0 0 skipped 2 first none last none
+note segment 00000006 is damaged at 0, kind 3 BadType: 1 byte is passed over, and 0 records with 0 samples can be read, which `unpack --past-damage` writes
+note segment 00000007 cannot be read: other error
 ";
 
-// Files are read one after another, also those behind one that is damaged.
+// A directory that cannot be listed ends an inspection. A file that cannot be read does not, here the last one, but for want of memory.
 #[test]
 fn each_read_of_an_inspection_fails(rt: HostRuntime) -> Result<(), StoreFault> {
+    for (call, (said, names)) in (1..).zip(READS_OF_LOG) {
+        let out = (OUT_OF_MEMORY, *names);
+        assert_calls(&rt, &INSPECT, (call, StoreFault::OutOfMemory), out, call)?;
+        if call < 3 {
+            let refused = ((3, "", *said), *names);
+            assert_calls(&rt, &INSPECT, (call, UNSAID), refused, call)?;
+        }
+    }
     let done = ((1, INSPECTED, ""), IN_CHECKPOINT);
-    assert_each(&rt, &INSPECT, READS_OF_LOG, done)
+    assert_calls(&rt, &INSPECT, (6, UNSAID), done, 6)
 }
 
 // None of the parts is what it should be.

@@ -5,7 +5,7 @@ use crate::fragments::*;
 use crate::listed::{Listed, found};
 use crate::noted_call::NotedCall;
 use crate::outlasts::{Outcome, append, cut, make_checkpoint, unpack};
-use crate::runs::{APPEND, CHECKPOINT, CUT, Case, UNPACK};
+use crate::runs::{APPEND, CHECKPOINT, CUT, Case, RESCUE, UNPACK};
 use block_commands::BlockRequest;
 use prom_line::Asked;
 use prom_store::{Status, StoreFault};
@@ -88,6 +88,17 @@ const LISTINGS: &[Listing] = &[
     ),
     (
         &UNPACK,
+        " log log/checkpoint.00000002 log/checkpoint.00000002/00000000 log/00000003 out out/log out/log/checkpoint.00000002 \
+        out/log/checkpoint.00000002/00000000 out/log/00000003",
+        &[
+            ("log/checkpoint.00000002/00000000", SERIES_3_COMPRESSED),
+            ("log/00000003", SAMPLE_1_AT_1030),
+            ("out/log/checkpoint.00000002/00000000", SERIES_3),
+            ("out/log/00000003", SAMPLE_1_AT_1030),
+        ],
+    ),
+    (
+        &RESCUE,
         " log log/checkpoint.00000002 log/checkpoint.00000002/00000000 log/00000003 out out/log out/log/checkpoint.00000002 \
         out/log/checkpoint.00000002/00000000 out/log/00000003",
         &[

@@ -218,14 +218,20 @@ fn least_valid_times_of_each_command(rt: HostRuntime) -> Result<(), AllocError> 
 
 #[test]
 fn options_of_unpack(rt: HostRuntime) -> Result<(), AllocError> {
-    for (line, through_damage) in [
-        ("prom_head unpack log --out a/b", false),
-        ("prom_head unpack --through-damage --out=a/b log", true),
+    for (line, through_damage, past_damage) in [
+        ("prom_head unpack log --out a/b", false, false),
+        (
+            "prom_head unpack --through-damage --out=a/b log",
+            true,
+            false,
+        ),
+        ("prom_head unpack log --past-damage --out=a/b", false, true),
     ] {
         let request = UnpackRequest {
             dir: "log",
             out: "a/b",
             through_damage,
+            past_damage,
         };
         assert_asked(&rt, line, Asked::Unpack(request))?;
     }

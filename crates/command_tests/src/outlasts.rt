@@ -1,10 +1,11 @@
 //! The commands that write, over a list of files: what stands before them and after them, and what a crash at any moment leaves.
 
-ghost use Rattle.std.specs.Prelude.{◌≡◌, [], false, map};
+ghost use Rattle.std.specs.Prelude.{◌≡◌, [], false, map, true};
 ghost use Rattle.unpack_commands.specs.Folders.{ending_of};
+ghost use Rattle.unpack_commands.specs.Rescues.{rescue_ending_of};
 ghost use Rattle.command_tests.specs.Listings.{file_of};
 ghost use Rattle.command_tests.specs.Noted.{calls_of};
-ghost use Rattle.command_tests.specs.Outlasts.{AppendOutlasts, CheckpointOutlasts, CutOutlasts, UnpackOutlasts};
+ghost use Rattle.command_tests.specs.Outlasts.{AppendOutlasts, CheckpointOutlasts, CutOutlasts, RescueOutlasts, UnpackOutlasts};
 
 use crate::listed::Listed;
 use crate::listing::Listing;
@@ -95,7 +96,8 @@ pub fn cut<R: Threads + Wait + Sync>(
 
 /// Unpacks a log into a new directory. A crash at any moment leaves the whole directory, or what stood there before.
 pub fn unpack(alloc: Global, files: Vec<Listed>, request: UnpackRequest<'_>) -> Outcome
-    ensures { UnpackOutlasts request.entry (map file_of files.items) (calls_of result.calls.items) (map file_of result.files.items) (ending_of request.entry.through_damage result.answer) }
+    ensures up_to_damage { request.entry.past_damage ≡ false → UnpackOutlasts request.entry (map file_of files.items) (calls_of result.calls.items) (map file_of result.files.items) (ending_of request.entry.through_damage result.answer) }
+    ensures past_damage { request.entry.past_damage ≡ true → RescueOutlasts request.entry (map file_of files.items) (calls_of result.calls.items) (map file_of result.files.items) (rescue_ending_of result.answer) }
 {
     let mut store = listing_of(alloc, files);
     let answer = carry_out_unpack(alloc, &mut store, request);

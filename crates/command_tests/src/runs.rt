@@ -179,6 +179,18 @@ pub const UNPACK: Case = Case {
         dir: "log",
         out: "out/log",
         through_damage: false,
+        past_damage: false,
     }),
     dir: "out",
+};
+
+/// All that can be read of the same log, which is all of it.
+pub const RESCUE: Case = Case {
+    asked: Asked::Unpack(UnpackRequest {
+        dir: "log",
+        out: "out/log",
+        through_damage: false,
+        past_damage: true,
+    }),
+    ..UNPACK
 };
