@@ -7,7 +7,7 @@ _prom_head() {
     fi
     case ${COMP_WORDS[1]} in
         inspect) options='-h --json --min-valid --min-valid-of --help' ;;
-        unpack) options='-h --out --through-damage --help' ;;
+        unpack) options='-h --out --through-damage --past-damage --help' ;;
         replay) options='-h --workers --round-pages --min-valid --min-valid-of --help' ;;
         records) options='-h --help' ;;
         series) options='-h --pair --workers --round-pages --min-valid --min-valid-of --help' ;;

@@ -18,6 +18,7 @@ complete -c prom_head -n '__fish_seen_subcommand_from inspect' -l min-valid-of -
 complete -c prom_head -n '__fish_seen_subcommand_from inspect' -l help -s h -d 'Print help (see more with '\''--help'\'')'
 complete -c prom_head -n '__fish_seen_subcommand_from unpack' -l out -r -d 'The directory that is made for the log'
 complete -c prom_head -n '__fish_seen_subcommand_from unpack' -l through-damage -d 'Of a damaged log, write what is before the damage'
+complete -c prom_head -n '__fish_seen_subcommand_from unpack' -l past-damage -d 'Write all that can be read, also what is behind damage'
 complete -c prom_head -n '__fish_seen_subcommand_from unpack' -l help -s h -d 'Print help (see more with '\''--help'\'')'
 complete -c prom_head -n '__fish_seen_subcommand_from replay' -l workers -r -d 'How many workers replay the log, 1 to 64 [default: 4]'
 complete -c prom_head -n '__fish_seen_subcommand_from replay' -l round-pages -r -d 'How many pages of the log are taken in a round [default: 256]'
