@@ -3,7 +3,7 @@
 ghost use Rattle.std.specs.Prelude.{◌≡◌, ℕ, IfOk, List, OnOk, length, string_bytes};
 ghost use Rattle.serde_json.specs.Data.{no_members, object, string};
 ghost use Rattle.serde_json.specs.View.{members_view, view};
-ghost use Rattle.survey_commands.specs.Documents.{IsDocument, array_of, count_data, count_members, damage_data, document_members, fault_name as name_of_fault, fault_number as number_of_fault, file_data, file_members, file_word, name_members, or_null, readable_data, size_members, skipped_data, sums_members, survey_members, time_members, unread_data, with_members};
+ghost use Rattle.survey_commands.specs.Documents.{IsDocument, array_of, count_data, count_members, damage_data, document_members, fault_name as name_of_fault, fault_number as number_of_fault, file_data, file_members, file_word, name_members, or_null, readable_data, readable_members, size_members, skipped_data, sums_members, survey_members, time_members, unread_data, with_members};
 
 use crate::notes::push_remark;
 use crate::remarks::Remark;
@@ -117,17 +117,26 @@ fn damage_value(alloc: Global, damage: Option<UnpackDamage>) -> Result<Value, Al
     json!(in alloc; {"offset": offset, "kind": number, "name": name})
 }
 
-// Returns how much of a file can be read.
+// Adds how much of a file can be read.
+fn put_readable(
+    members: &mut Map<String, Value>,
+    alloc: Global,
+    readable: Readable,
+) -> Result<(), AllocError>
+    ensures { OnOk result (members_view members.new.entries ≡ with_members (readable_members readable) (members_view members.old.entries)) }
+{
+    put(members, alloc, "records", Value::from(readable.records))?;
+    put(members, alloc, "samples", Value::from(readable.samples))?;
+    put(members, alloc, "places", Value::from(readable.places))?;
+    put(members, alloc, "passed", Value::from(readable.passed))
+}
+
 fn readable_value(alloc: Global, readable: Readable) -> Result<Value, AllocError>
     ensures { IfOk result (λ v. view v ≡ readable_data readable) }
 {
-    let Readable {
-        records,
-        samples,
-        places,
-        passed,
-    } = readable;
-    json!(in alloc; {"records": records, "samples": samples, "places": places, "passed": passed})
+    let mut members = Map::new(alloc);
+    put_readable(&mut members, alloc, readable)?;
+    Ok(Value::from(members))
 }
 
 fn unread_value(alloc: Global, unread: Unread) -> Result<Value, AllocError>
