@@ -1,13 +1,15 @@
 -- What a fault says.
 use Rattle.std.specs.Prelude.{◌≡◌, ℕ, ◌++◌, List, Option, None, Some, codes, string_bytes, ⊤}
+use Rattle.std.specs.Fmt.{decimal}
 use Rattle.prom_store.specs.declared.fault.Fault.{Fault}
-use Rattle.prom_store.specs.declared.fault.Fault.TheVariants.{Damage, BadIndex, BadChunks, BadTombstones, BadMeta, NotMeta, CannotRead, CannotWrite, Exists, OutOfMemory}
+use Rattle.prom_store.specs.declared.fault.Fault.TheVariants.{Damage, Lost, BadIndex, BadChunks, BadTombstones, BadMeta, NotMeta, CannotRead, CannotWrite, Exists, OutOfMemory}
 use Rattle.prom_store.specs.Damages.{damage_text}
 use Rattle.prom_store.specs.Shown.{shown}
 
--- the log is damaged, or bytes of a block are not what a block has there
+-- the log is damaged, or parts of it are lost, or bytes of a block are not what a block has there
 abbrev pub TellsDamage : Fault → Type 0
 TellsDamage (Damage _) = ⊤
+TellsDamage (Lost _) = ⊤
 TellsDamage (BadIndex _) = ⊤
 TellsDamage BadChunks = ⊤
 TellsDamage BadTombstones = ⊤
@@ -37,9 +39,10 @@ TellsTaken path (Exists told) = string_bytes told ≡ path
 TellsTaken _ OutOfMemory = ⊤
 TellsTaken _ _ = ⊥
 
--- the text of a fault that is damage of a log, or that names a path, which is one line whatever the path is
+-- the text of a fault that is damage of a log, or tells how much is lost, or that names a path, which is one line whatever the path is
 abbrev pub path_text : Fault → Option (List ℕ)
 path_text (Damage line) = Some (damage_text line.0)
+path_text (Lost parts) = Some (codes "lost parts of the log: " ++ decimal parts)
 path_text (NotMeta path) = Some (shown (string_bytes path) ++ codes ": not a block's meta.json")
 path_text (CannotRead path reason) = Some (codes "cannot read " ++ shown (string_bytes path))
 path_text (CannotWrite path reason) = Some (codes "cannot write " ++ shown (string_bytes path))

@@ -57,3 +57,12 @@ impl fmt::Display for DamageLine {
         write!(f, "damage {of} {file} offset {offset} kind {number} {name}")
     }
 }
+
+/// What is wrong with a log that was read.
+#[derive(Clone, Copy, Debug, PartialEq, Eq)]
+pub enum Flaw {
+    /// It was read up to this damage.
+    Damage(Damage),
+    /// It was read past damage, and this many parts of it are lost.
+    Lost(u64),
+}

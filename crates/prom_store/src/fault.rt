@@ -84,6 +84,8 @@ pub enum Cause {
     Gap(NumberGap),
     /// A record of the log is compressed.
     Compressed,
+    /// Parts of the log are lost.
+    Lost,
     /// A checkpoint left out this many records, since their types are not read.
     LeftOut(u64),
 }
@@ -94,8 +96,9 @@ impl fmt::Display for Cause {
             Cause::Refused(reason) => fmt::Display::fmt(reason, f),
             Cause::Gap(gap) => fmt::Display::fmt(gap, f),
             Cause::Compressed => f.write_str(
-                "`unpack` writes such a log anew, without compression, if Snappy compressed it",
+                "`-z` reads such a log, and `unpack` writes it anew without compression, if Snappy compressed it",
             ),
+            Cause::Lost => f.write_str("`inspect` says what can be read of each file"),
             Cause::LeftOut(records) => write!(
                 f,
                 "records left out, since their types are not read: {records}; `--keep-skipped` copies them"
@@ -113,6 +116,8 @@ pub enum Fault {
     BadUlid,
     /// The log is damaged. What it holds before the damage was printed, unless a block was to be made of it.
     Damage(DamageLine),
+    /// The log was read past damage, and this many parts of it are lost. What it holds besides was printed.
+    Lost(u64),
     /// The index of a block is refused.
     BadIndex(ReadFault),
     /// The chunk files of a block do not fit its index.
@@ -202,6 +207,7 @@ impl Fault {
             Fault::BadUlid => "ulid must be 26 Crockford characters",
             // the line, and a text with a path, are written whole
             Fault::Damage(_)
+            | Fault::Lost(_)
             | Fault::NotMeta { .. }
             | Fault::CannotRead { .. }
             | Fault::CannotWrite { .. }
@@ -235,6 +241,7 @@ impl Fault {
             }
             Fault::Gap(gap) => Some(Cause::Gap((*gap)?)),
             Fault::Damage(line) => line.cause(),
+            Fault::Lost(_) => Some(Cause::Lost),
             _ => None,
         }
     }
@@ -249,6 +256,7 @@ impl Fault {
         match self {
             Fault::NoPair | Fault::BadUlid => Status::Usage,
             Fault::Damage(_)
+            | Fault::Lost(_)
             | Fault::BadIndex(_)
             | Fault::BadChunks
             | Fault::BadTombstones
@@ -281,6 +289,7 @@ impl fmt::Display for Fault {
         let text = self.text();
         match self {
             Fault::Damage(line) => write!(f, "{line}"),
+            Fault::Lost(parts) => write!(f, "lost parts of the log: {parts}"),
             Fault::BadIndex(fault) => write!(f, "{text} {fault}"),
             Fault::NotMeta { path } => { write!(f, "{}: not a block's meta.json", ShownPath(path)) }
             Fault::CannotRead { path, .. } => write!(f, "cannot read {}", ShownPath(path)),

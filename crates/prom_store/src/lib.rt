@@ -15,15 +15,15 @@ mod store;
 mod whole;
 
 pub use block_read::Encoding;
-pub use damage::{DamageLine, FileNumber, kind_of_file};
+pub use damage::{DamageLine, FileNumber, Flaw, kind_of_file};
 pub use disk::{Disk, names_of};
 pub use fault::{Cause, Fault, NumberGap, Status};
 pub use line::LineFault;
 pub use paths::join;
 pub use reason::Reason;
 pub use requests::{
-    AnalyzeRequest, AppendRequest, BlockRequest, CheckpointRequest, CutRequest, DumpRequest,
-    InspectRequest, Request, UnpackRequest,
+    AnalyzeRequest, AppendRequest, BlockRequest, BlocksRequest, CheckpointRequest, CutRequest,
+    DumpRequest, InspectRequest, LogForm, Request, RescueRequest, UnpackRequest,
 };
 pub use several::{ReadFile, read_several};
 pub use store::{PartRead, Store, StoreFault, Unread};
