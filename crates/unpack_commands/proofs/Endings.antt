@@ -10,12 +10,13 @@ use Rattle.prom_store.specs.Views.{view_of}
 use Rattle.prom_store.specs.declared.fault.Status.TheVariants.{Damaged, Done}
 use Rattle.prom_commands.specs.declared.commands.Answer.{Answer}
 use Rattle.unpack_commands.specs.declared.planned.PlannedLog.{PlannedLog}
-use Rattle.unpack_commands.specs.declared.reading.FileDamage.{FileDamage}
+use Rattle.log_source.specs.declared.unpacking.FileDamage.{FileDamage}
 use Rattle.unpack_commands.specs.Folders.{ending_of}
-use Rattle.unpack_commands.specs.Logs.{AreUnpackedBehind, seen_since}
+use Rattle.log_source.specs.Unpacked.{AreUnpackedBehind}
+use Rattle.unpack_commands.specs.Since.{seen_since}
 use Rattle.unpack_commands.specs.Steps.{AreUnpackedFrom, IsUnpackedFrom, with_files}
 use Rattle.unpack_commands.specs.Told.{EndsWith, TellsUnpacked, damage_front}
-use Rattle.unpack_commands.proofs.Results.{some_not_none}
+use Rattle.log_source.proofs.Results.{some_not_none}
 use Rattle.unpack_commands.proofs.Since.{checkpoint_wider, files_wider}
 
 pub tells_unpacked : (damage : Option FileDamage) (answer : Answer) → (answer.status ≡ Done → damage ≡ None) → (answer.status ≡ Damaged → IsSome damage) → IfSome damage (λ bad. EndsWith bad (string_bytes answer.printed)) → TellsUnpacked damage answer

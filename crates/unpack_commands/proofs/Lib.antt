@@ -4,12 +4,7 @@ pub mod Log
 pub mod LogNames
 pub mod Made
 pub mod Plans
-pub mod Readable
-pub mod Results
 pub mod Since
-pub mod Whole
-pub mod Slotted
-pub mod Events
 pub mod LostLines
 pub mod Written
 pub mod Listed

@@ -11,15 +11,16 @@ use Rattle.prom_store.specs.Views.{View}
 use Rattle.prom_store.specs.declared.requests.UnpackRequest.{UnpackRequest}
 use Rattle.prom_files.proofs.Safety.{for_less}
 use Rattle.log_listing.specs.Listings.{AreListed}
-use Rattle.unpack_commands.specs.declared.lost.Lost.{Lost}
+use Rattle.log_source.specs.declared.lost.Lost.{Lost}
 use Rattle.unpack_commands.specs.declared.rescue_writing.SlotCheckpoint.{SlotCheckpoint}
 use Rattle.unpack_commands.specs.declared.rescue_writing.SlotLog.{SlotLog}
 use Rattle.unpack_commands.specs.Folders.{IsOut, LeavesLog, LeavesOldOrLog}
-use Rattle.unpack_commands.specs.Logs.{seen_since}
-use Rattle.unpack_commands.specs.Rescued.{AreRescuedIn, IsRescuedCheckpoint, IsRescuedLogIn, checkpoint_slots}
+use Rattle.unpack_commands.specs.Since.{seen_since}
+use Rattle.log_source.specs.Rescued.{AreRescuedIn, IsRescuedCheckpoint, IsRescuedLogIn, checkpoint_slots}
 use Rattle.unpack_commands.specs.Rescues.{RescueEnding, Rescues, failing_rescue}
-use Rattle.unpack_commands.specs.RescueSteps.{IsInnerRescued, IsRescuedFrom, IsRescuedListed, RescuesInto, with_slot_files}
-use Rattle.unpack_commands.specs.Slots.{slot_value}
+use Rattle.unpack_commands.specs.RescueSteps.{IsInnerRescued, IsRescuedFrom, RescuesInto, with_slot_files}
+use Rattle.log_source.specs.RescueSteps.{IsRescuedListed}
+use Rattle.log_source.specs.Slots.{slot_value}
 
 module _ (view : View) (log : SlotLog) (c : Option Checkpoint) (segments : List Segment) (lost : List Lost) where
   -- without a checkpoint

@@ -16,9 +16,9 @@ use Rattle.prom_files.proofs.Orders.{all_both, first_behind, first_of_more}
 use Rattle.prom_files.proofs.Paths.{unfinished_longer}
 use Rattle.prom_files.proofs.Safety.{for_less}
 use Rattle.unpack_commands.specs.declared.planned.PlannedCheckpoint.{PlannedCheckpoint}
-use Rattle.unpack_commands.specs.declared.reading.FileDamage.{FileDamage}
+use Rattle.log_source.specs.declared.unpacking.FileDamage.{FileDamage}
 use Rattle.unpack_commands.specs.Folders.{GivesUpLog, LeavesLog, LeavesOldOrLog, WritesLog, checkpoint_files, files_in, log_dirs, log_files}
-use Rattle.unpack_commands.specs.Logs.{AreUnpackedBehind, AreUnpackedIn}
+use Rattle.log_source.specs.Unpacked.{AreUnpackedBehind, AreUnpackedIn}
 use Rattle.unpack_commands.specs.declared.rescue_writing.SlotCheckpoint.{SlotCheckpoint}
 use Rattle.unpack_commands.specs.RescueSteps.{with_slot_files}
 use Rattle.unpack_commands.specs.Steps.{with_files}

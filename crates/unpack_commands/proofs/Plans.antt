@@ -11,9 +11,10 @@ use Rattle.prom_store.specs.Views.{View}
 use Rattle.prom_store.specs.declared.requests.UnpackRequest.{UnpackRequest}
 use Rattle.unpack_commands.specs.declared.planned.PlannedCheckpoint.{PlannedCheckpoint}
 use Rattle.unpack_commands.specs.declared.planned.PlannedLog.{PlannedLog}
-use Rattle.unpack_commands.specs.declared.reading.FileDamage.{FileDamage}
+use Rattle.log_source.specs.declared.unpacking.FileDamage.{FileDamage}
 use Rattle.unpack_commands.specs.Folders.{Ending, IsOut, Unpacks, WritesUnpacked, failing}
-use Rattle.unpack_commands.specs.Logs.{AreUnpackedIn, IsUnpackedCheckpoint, IsUnpackedLogIn, IsUnpackedPlan, seen_since}
+use Rattle.log_source.specs.Unpacked.{AreUnpackedIn, IsUnpackedCheckpoint, IsUnpackedLogIn, IsUnpackedPlan}
+use Rattle.unpack_commands.specs.Since.{seen_since}
 use Rattle.unpack_commands.specs.Steps.{AreUnpackedOf, IsUnpackedFrom, UnpacksInto, with_files}
 use Rattle.prom_files.proofs.Safety.{for_less}
 use Rattle.unpack_commands.specs.Folders.{LeavesLog, LeavesOldOrLog}

@@ -7,8 +7,9 @@ use Rattle.log_unpacking.specs.declared.fault.UnpackDamage.{UnpackDamage}
 use Rattle.prom_store.specs.Calls.{Call}
 use Rattle.prom_store.specs.Found.{Found}
 use Rattle.prom_store.specs.Views.{View, view_of}
-use Rattle.unpack_commands.specs.declared.reading.FileDamage.{FileDamage}
-use Rattle.unpack_commands.specs.Logs.{AreUnpackedIn, IsUnpackedIn, seen_since}
+use Rattle.log_source.specs.declared.unpacking.FileDamage.{FileDamage}
+use Rattle.log_source.specs.Unpacked.{AreUnpackedIn, IsUnpackedIn}
+use Rattle.unpack_commands.specs.Since.{seen_since}
 use Rattle.unpack_commands.specs.Steps.{AreUnpackedOf}
 use Rattle.unpack_commands.specs.declared.planned.PlannedCheckpoint.{PlannedCheckpoint}
 

@@ -13,8 +13,9 @@ use Rattle.prom_files.specs.Folders.{FileAt, LeavesFolder, LeavesOld, LeavesOldO
 use Rattle.prom_files.specs.Targets.{unfinished_of, zero_filled}
 use Rattle.prom_store.specs.declared.fault.Status.TheVariants.{Damaged, Done}
 use Rattle.prom_commands.specs.declared.commands.Answer.{Answer}
-use Rattle.unpack_commands.specs.declared.reading.FileDamage.{FileDamage}
-use Rattle.unpack_commands.specs.Logs.{IsUnpackedLogIn, seen_since}
+use Rattle.log_source.specs.declared.unpacking.FileDamage.{FileDamage}
+use Rattle.log_source.specs.Unpacked.{IsUnpackedLogIn}
+use Rattle.unpack_commands.specs.Since.{seen_since}
 use Rattle.unpack_commands.specs.Told.{TellsUnpacked}
 
 -- files in a folder, each under its number

@@ -1,10 +1,7 @@
-pub mod Texts
-pub mod Logs
+pub mod Since
 pub mod Folders
 pub mod Steps
 pub mod Told
-pub mod Rescued
 pub mod Rescues
-pub mod Slots
 pub mod Reports
 pub mod RescueSteps

@@ -1,6 +1,6 @@
 -- What is told, part by part. Only private functions and proofs cite this file.
 use Rattle.std.specs.Prelude.{◌≡◌, ◌+◌, ◌++◌, ℕ, List, [], length, string_bytes}
-use Rattle.unpack_commands.specs.declared.lost.Lost.{Lost}
+use Rattle.log_source.specs.declared.lost.Lost.{Lost}
 use Rattle.unpack_commands.specs.declared.lost_report.Report.{Report}
 use Rattle.unpack_commands.specs.Rescues.{AreLines}
 

@@ -3,23 +3,22 @@ use Rattle.std.specs.Prelude.{◌≡◌, ◌⊎◌, ℕ, false, true, List, ◌�
 use Rattle.std.specs.Option.{option_map}
 use Rattle.wal_log.specs.declared.input.Checkpoint.{Checkpoint}
 use Rattle.wal_log.specs.declared.input.Segment.{Segment}
-use Rattle.wal_log.specs.Plan.{NumberedName}
 use Rattle.prom_store.specs.Calls.{Call, CreateDir}
 use Rattle.prom_store.specs.Found.{Found}
 use Rattle.prom_store.specs.Views.{View}
 use Rattle.prom_files.specs.Folders.{create_dirs, files_calls}
 use Rattle.prom_files.specs.Orders.{DidAll, DidFirst}
-use Rattle.unpack_commands.specs.declared.lost.Lost.{Lost}
+use Rattle.log_source.specs.declared.lost.Lost.{Lost}
 use Rattle.unpack_commands.specs.declared.lost_report.Report.{Report}
 use Rattle.unpack_commands.specs.declared.rescue_writing.SlotCheckpoint.{SlotCheckpoint}
 use Rattle.unpack_commands.specs.declared.rescue_writing.SlotFiles.{SlotFiles}
 use Rattle.unpack_commands.specs.declared.rescue_writing.SlotLog.{SlotLog}
 use Rattle.unpack_commands.specs.Folders.{checkpoint_files, files_in, log_files}
-use Rattle.unpack_commands.specs.Logs.{seen_since}
+use Rattle.unpack_commands.specs.Since.{seen_since}
 use Rattle.unpack_commands.specs.Reports.{Tells}
-use Rattle.unpack_commands.specs.Rescued.{AreRescuedIn, IsRescuedCheckpoint, SlotValue}
+use Rattle.log_source.specs.Rescued.{AreRescuedIn}
 use Rattle.unpack_commands.specs.Rescues.{RescueEnding, WritesRescued}
-use Rattle.unpack_commands.specs.Slots.{slot_value}
+use Rattle.log_source.specs.Slots.{slot_value}
 
 -- the checkpoint of these slots, with these files
 abbrev pub with_slot_files : Option SlotCheckpoint → List Segment → Option Checkpoint
@@ -45,14 +44,6 @@ pub record AreRescuedFrom (view : View) (log : SlotLog) (inner segments : List S
 -- a log of slots, written with this lost
 abbrev pub IsRescuedFrom : View → SlotLog → Option Checkpoint → List Segment → List Lost → Type 0
 IsRescuedFrom view log checkpoint segments lost = (inner : List Segment) × (checkpoint ≡ with_slot_files log.checkpoint inner) × AreRescuedFrom view log inner segments lost
-
--- A checkpoint and segments that have all that can be read of the listed checkpoint of a directory and of these slots, and what is lost.
-pub record IsRescuedListed (view : View) (dir : List ℕ) (newest : Option NumberedName) (slots : List SlotValue) (checkpoint : Option Checkpoint) (segments : List Segment) (lost : List Lost) : Type 0 where
-  pub first : List Lost
-  pub later : List Lost
-  pub lost_is : lost ≡ first ++ later
-  pub checkpoint_is : IsRescuedCheckpoint view dir newest checkpoint first
-  pub segments_are : AreRescuedIn view dir false slots segments later
 
 module _ {S : Type 0} (did : S → List Call → S → Type 0) where
   module _ (holds : S → List ℕ → Found → Type 0) (old : S) where

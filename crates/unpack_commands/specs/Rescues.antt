@@ -9,12 +9,12 @@ use Rattle.prom_store.specs.declared.fault.Status.TheVariants.{Damaged, Done}
 use Rattle.prom_store.specs.declared.requests.UnpackRequest.{UnpackRequest}
 use Rattle.prom_commands.specs.declared.commands.Answer.{Answer}
 use Rattle.std.specs.Fmt.{decimal}
-use Rattle.unpack_commands.specs.declared.lost.Lost.{Lost}
-use Rattle.unpack_commands.specs.declared.lost.LostPart.{LostPart}
-use Rattle.unpack_commands.specs.declared.lost.LostPart.TheVariants.{Missing, PassedOver, CannotRead}
+use Rattle.log_source.specs.declared.lost.Lost.{Lost}
+use Rattle.log_source.specs.declared.lost.LostPart.{LostPart}
+use Rattle.log_source.specs.declared.lost.LostPart.TheVariants.{Missing, PassedOver, CannotRead}
 use Rattle.unpack_commands.specs.Folders.{GivesUpLog, IsOut, WritesLog}
-use Rattle.unpack_commands.specs.Logs.{seen_since}
-use Rattle.unpack_commands.specs.Rescued.{IsRescuedLogIn}
+use Rattle.unpack_commands.specs.Since.{seen_since}
+use Rattle.log_source.specs.Rescued.{IsRescuedLogIn}
 
 -- ---- what is told
 

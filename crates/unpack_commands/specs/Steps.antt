@@ -12,9 +12,10 @@ use Rattle.prom_files.specs.Orders.{DidAll, DidFirst}
 use Rattle.unpack_commands.specs.declared.planned.PlannedCheckpoint.{PlannedCheckpoint}
 use Rattle.unpack_commands.specs.declared.planned.PlannedFiles.{PlannedFiles}
 use Rattle.unpack_commands.specs.declared.planned.PlannedLog.{PlannedLog}
-use Rattle.unpack_commands.specs.declared.reading.FileDamage.{FileDamage}
+use Rattle.log_source.specs.declared.unpacking.FileDamage.{FileDamage}
 use Rattle.unpack_commands.specs.Folders.{DoesNothing, Ending, WritesUnpacked, checkpoint_files, files_in, log_files}
-use Rattle.unpack_commands.specs.Logs.{AreUnpackedBehind, AreUnpackedIn, seen_since}
+use Rattle.log_source.specs.Unpacked.{AreUnpackedBehind, AreUnpackedIn}
+use Rattle.unpack_commands.specs.Since.{seen_since}
 
 -- a planned checkpoint with these files
 abbrev pub with_files : Option PlannedCheckpoint → List Segment → Option Checkpoint

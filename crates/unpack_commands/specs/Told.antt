@@ -4,7 +4,7 @@ use Rattle.std.specs.Fmt.{decimal}
 use Rattle.prom_store.specs.Damages.{file_number, kind_of_file}
 use Rattle.prom_store.specs.declared.fault.Status.TheVariants.{Damaged, Done}
 use Rattle.prom_commands.specs.declared.commands.Answer.{Answer}
-use Rattle.unpack_commands.specs.declared.reading.FileDamage.{FileDamage}
+use Rattle.log_source.specs.declared.unpacking.FileDamage.{FileDamage}
 
 -- the line that tells damage, up to why: the file, and the offset in it in bytes
 abbrev pub damage_front : FileDamage → List ℕ

@@ -4,7 +4,8 @@ ghost use Rattle.std.specs.Prelude.{◌≡◌, MatchResult, Some, false, map, tr
 ghost use Rattle.std.specs.Option.{option_map};
 ghost use Rattle.wal_log.specs.Plan.{named as name_of};
 ghost use Rattle.unpack_commands.specs.Folders.{Unpacks, ending_of, failing};
-ghost use Rattle.unpack_commands.specs.Logs.{IsUnpackedPlan, seen_since};
+ghost use Rattle.log_source.specs.Unpacked.{IsUnpackedPlan};
+ghost use Rattle.unpack_commands.specs.Since.{seen_since};
 ghost use Rattle.unpack_commands.specs.Rescues.{Rescues, rescue_ending_of};
 ghost use Rattle.unpack_commands.specs.Steps.{IsUnpackedFrom, UnpacksInto};
 
@@ -14,7 +15,8 @@ use crate::planned::{PlannedCheckpoint, PlannedLog};
 use crate::reading::find_damage;
 use crate::report::damage_answer;
 use crate::writing::write_log;
-use prom_commands::{Answer, names_in, plan_checkpoint, plan_log};
+use log_source::{names_in, plan_checkpoint, plan_log};
+use prom_commands::Answer;
 use prom_files::Target;
 use prom_store::{Fault, Store, UnpackRequest, join};
 use std::alloc::Global;

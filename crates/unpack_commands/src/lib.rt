@@ -2,7 +2,6 @@
 #![tactic(auto)]
 
 mod commands;
-mod lost;
 mod lost_report;
 mod out;
 mod past_damage;
@@ -10,11 +9,8 @@ mod planned;
 mod reading;
 mod report;
 mod rescue_writing;
-mod rescuing;
-mod slots;
 mod writing;
 
 pub use commands::carry_out_unpack;
-pub use lost::{Lost, LostPart};
+pub use log_source::{FileDamage, Lost, LostPart};
 pub use prom_store::UnpackRequest;
-pub use reading::FileDamage;

@@ -3,26 +3,26 @@
 ghost use Rattle.std.specs.Prelude.{◌≡◌, ◌==◌, ◌++◌, ◌∷◌, [], ℕ, if◌then◌else◌, IfOk, List, None, OnOk, string_bytes};
 ghost use Rattle.prom_store.specs.Damages.{file_number, kind_of_file as kind_word};
 ghost use Rattle.unpack_commands.specs.Reports.{Tells, BeginsReport};
-ghost use Rattle.unpack_commands.specs.Rescued.{lost_of};
+ghost use Rattle.log_source.specs.Rescued.{lost_of};
 ghost use Rattle.unpack_commands.specs.Rescues.{AreLines, TellsRescued, bytes_at, lost_front};
 
-use crate::lost::{Lost, LostPart};
 use crate::report::Totals;
-use crate::rescuing::RescuedText;
 use log_references::References;
+use log_source::{Lost, LostPart, RescuedText};
 use prom_commands::Answer;
 use prom_store::{FileNumber, Status, kind_of_file};
 use std::alloc::{AllocError, Global};
 use wal_log::Place;
 
-/// What is told: a line for each part that is lost, and how much is written. And the references of all records that are written.
+/// What is told: a line for each part that is lost, and how much is written. And the references of all records that are written, which are
+/// lent where a file is read.
 #[derive(Drop)]
 pub(crate) struct Report {
     pub(crate) lines: String,
     /// How many parts are lost.
     pub(crate) lost: u64,
     pub(crate) totals: Totals,
-    pub(crate) references: References,
+    pub(crate) references: Option<References>,
 }
 
 impl Report {
@@ -34,7 +34,7 @@ impl Report {
             lines: String::new(alloc),
             lost: 0,
             totals: Totals::none(),
-            references,
+            references: Some(references),
         }
     }
 }
@@ -158,7 +158,10 @@ impl Report {
         ensures fault { IfOk result (λ answer. answer.fault ≡ None) }
     {
         let status = self.status();
-        let unbound = self.references.unbound().references;
+        let unbound = match &self.references {
+            Some(references) => references.unbound().references,
+            None => 0,
+        };
         let Report {
             lines,
             lost: _,

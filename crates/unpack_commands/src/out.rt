@@ -6,7 +6,7 @@ ghost use Rattle.std.specs.Path.{path_file_name, path_parent, slash};
 ghost use Rattle.prom_files.specs.Targets.{IsName, unfinished_of};
 ghost use Rattle.unpack_commands.specs.Folders.{IsNoLogName, IsOut};
 
-use prom_commands::plan_log;
+use log_source::plan_log;
 use prom_files::{Target, written};
 use prom_store::{Fault, Reason, Store, StoreFault};
 use std::alloc::Global;

@@ -3,16 +3,17 @@
 ghost use Rattle.std.specs.Prelude.{MatchResult, Some, map};
 ghost use Rattle.std.specs.Option.{option_map};
 ghost use Rattle.wal_log.specs.Plan.{named as name_of};
-ghost use Rattle.unpack_commands.specs.Logs.{seen_since};
-ghost use Rattle.unpack_commands.specs.RescueSteps.{IsRescuedListed, RescuesInto};
+ghost use Rattle.unpack_commands.specs.Since.{seen_since};
+ghost use Rattle.unpack_commands.specs.RescueSteps.{RescuesInto};
 ghost use Rattle.unpack_commands.specs.Rescues.{Rescues, failing_rescue, rescue_ending_of};
-ghost use Rattle.unpack_commands.specs.Slots.{slot_value};
+ghost use Rattle.log_source.specs.RescueSteps.{IsRescuedListed};
+ghost use Rattle.log_source.specs.Slots.{slot_value};
 
 use crate::out::free_target;
 use crate::rescue_writing::{SlotCheckpoint, SlotLog, write_rescued};
-use crate::slots::{Slot, checkpoint_slots, segment_slots};
 use log_listing::{list_files, list_log};
-use prom_commands::{Answer, names_in};
+use log_source::{Slot, checkpoint_slots, names_in, segment_slots};
+use prom_commands::Answer;
 use prom_files::Target;
 use prom_store::{Fault, Store, UnpackRequest, join};
 use std::alloc::Global;

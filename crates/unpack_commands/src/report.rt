@@ -3,7 +3,7 @@
 ghost use Rattle.std.specs.Prelude.{◌≡◌, ◌∷◌, [], ◌++◌, ℕ, IfOk, IfSome, IsSome, List, None, OnOk, Some, string_bytes};
 ghost use Rattle.unpack_commands.specs.Told.{EndsWith, TellsUnpacked, damage_front};
 
-use crate::reading::FileDamage;
+use log_source::FileDamage;
 use prom_commands::{Answer, push_numbers};
 use prom_store::{FileNumber, Status, kind_of_file};
 use std::alloc::{AllocError, Global};

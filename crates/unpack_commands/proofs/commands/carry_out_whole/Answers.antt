@@ -2,7 +2,7 @@ use Rattle.std.specs.Prelude.{None}
 use Rattle.std.proofs.Common.{sym, ◌∙◌, ◌≡◌}
 use Rattle.unpack_commands.specs.Folders.{ending_of}
 use Rattle.unpack_commands.proofs.Plans.{unpacks_failed}
-use Rattle.unpack_commands.proofs.Results.{some_not_none}
+use Rattle.log_source.proofs.Results.{some_not_none}
 use Rattle.unpack_commands.proofs.commands.carry_out_whole.Goals as goal
 
 pub returns-in-Err : goal.returns-in-Err

@@ -2,9 +2,10 @@ use Rattle.std.proofs.Common.{ap, map, string_bytes, subst, sym}
 use Rattle.std.specs.Option.{option_map}
 use Rattle.wal_log.specs.Plan.{IsDirPlan, named as name_of}
 use Rattle.unpack_commands.specs.Folders.{ending_of, failing}
-use Rattle.unpack_commands.specs.Logs.{IsUnpackedLogIn, IsUnpackedPlan, seen_since}
+use Rattle.log_source.specs.Unpacked.{IsUnpackedLogIn, IsUnpackedPlan}
+use Rattle.unpack_commands.specs.Since.{seen_since}
 use Rattle.unpack_commands.proofs.Plans.{into_weaker, unpacks_out}
-use Rattle.unpack_commands.proofs.Results.{match_weaker}
+use Rattle.log_source.proofs.Results.{match_weaker}
 use Rattle.unpack_commands.proofs.commands.unpack.Goals as goal
 
 pub returns : goal.returns

@@ -1,7 +1,7 @@
 use Rattle.std.specs.Prelude.{Option, Some}
 use Rattle.std.proofs.Common.{inl, refl, rules, subst}
 use Rattle.prom_store.specs.Views.{view_of}
-use Rattle.unpack_commands.specs.declared.reading.FileDamage.{FileDamage}
+use Rattle.log_source.specs.declared.unpacking.FileDamage.{FileDamage}
 use Rattle.unpack_commands.specs.Steps.{AreUnpackedFrom, with_files}
 use Rattle.unpack_commands.proofs.Endings.{found_from, not_well}
 use Rattle.unpack_commands.proofs.commands.unpack_log.Goals as goal

@@ -2,10 +2,11 @@ use Rattle.std.proofs.Common.{None, map, refl, subst, sym}
 use Rattle.std.specs.Option.{option_map}
 use Rattle.wal_log.specs.Plan.{named as name_of}
 use Rattle.unpack_commands.specs.Folders.{ending_of, failing}
-use Rattle.unpack_commands.specs.Logs.{IsUnpackedPlan, seen_since}
+use Rattle.log_source.specs.Unpacked.{IsUnpackedPlan}
+use Rattle.unpack_commands.specs.Since.{seen_since}
 use Rattle.unpack_commands.specs.Steps.{IsUnpackedFrom}
 use Rattle.unpack_commands.proofs.Plans.{into_weaker, planned_alone}
-use Rattle.unpack_commands.proofs.Results.{match_weaker}
+use Rattle.log_source.proofs.Results.{match_weaker}
 use Rattle.unpack_commands.proofs.commands.unpack_planned.Goals as goal
 
 pub returns-in-None : goal.returns-in-None

@@ -2,9 +2,9 @@ use Rattle.std.proofs.Common.{None, Some, ap, map, refl, string_bytes, subst, sy
 use Rattle.wal_log.specs.Plan.{IsPlan, named as name_of}
 use Rattle.prom_store.specs.Found.{Names}
 use Rattle.unpack_commands.specs.Folders.{ending_of, failing}
-use Rattle.unpack_commands.specs.Logs.{seen_since}
+use Rattle.unpack_commands.specs.Since.{seen_since}
 use Rattle.unpack_commands.proofs.Plans.{into_weaker, planned_with}
-use Rattle.unpack_commands.proofs.Results.{match_weaker}
+use Rattle.log_source.proofs.Results.{match_weaker}
 use Rattle.unpack_commands.proofs.commands.unpack_with_checkpoint.Goals as goal
 
 pub returns : goal.returns

@@ -1,5 +1,5 @@
 use Rattle.std.proofs.Common.{◌≡◌, ◌++◌, ℕ, List, take, string_bytes}
-use Rattle.unpack_commands.specs.Rescued.{lost_of}
+use Rattle.log_source.specs.Rescued.{lost_of}
 use Rattle.unpack_commands.specs.Rescues.{AreLines}
 use Rattle.unpack_commands.proofs.lost_report.push_lines.Given as goal
 

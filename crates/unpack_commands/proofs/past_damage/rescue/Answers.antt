@@ -5,14 +5,14 @@ use Rattle.wal_log.specs.declared.input.Checkpoint.{Checkpoint}
 use Rattle.wal_log.specs.declared.input.Segment.{Segment}
 use Rattle.wal_log.specs.Plan.{named as name_of}
 use Rattle.log_listing.specs.Listings.{IsListing}
-use Rattle.unpack_commands.specs.declared.lost.Lost.{Lost}
-use Rattle.unpack_commands.specs.Logs.{seen_since}
-use Rattle.unpack_commands.specs.Rescued.{AreRescuedIn, IsRescuedLogIn, segment_slots}
+use Rattle.log_source.specs.declared.lost.Lost.{Lost}
+use Rattle.unpack_commands.specs.Since.{seen_since}
+use Rattle.log_source.specs.Rescued.{AreRescuedIn, IsRescuedLogIn, segment_slots}
 use Rattle.unpack_commands.specs.Rescues.{failing_rescue, rescue_ending_of}
-use Rattle.unpack_commands.specs.RescueSteps.{IsRescuedListed}
-use Rattle.unpack_commands.specs.Slots.{slot_value}
+use Rattle.log_source.specs.RescueSteps.{IsRescuedListed}
+use Rattle.log_source.specs.Slots.{slot_value}
 use Rattle.unpack_commands.proofs.Listed.{rescued_weaker, rescues_out}
-use Rattle.unpack_commands.proofs.Results.{match_weaker}
+use Rattle.log_source.proofs.Results.{match_weaker}
 use Rattle.unpack_commands.proofs.past_damage.rescue.Goals as goal
 
 pub returns : goal.returns

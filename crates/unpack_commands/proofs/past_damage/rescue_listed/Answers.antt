@@ -1,12 +1,13 @@
 use Rattle.std.proofs.Common.{None, map, refl, subst, sym}
 use Rattle.std.specs.Option.{option_map}
 use Rattle.wal_log.specs.Plan.{named as name_of}
-use Rattle.unpack_commands.specs.Logs.{seen_since}
+use Rattle.unpack_commands.specs.Since.{seen_since}
 use Rattle.unpack_commands.specs.Rescues.{failing_rescue, rescue_ending_of}
-use Rattle.unpack_commands.specs.RescueSteps.{IsRescuedFrom, IsRescuedListed}
-use Rattle.unpack_commands.specs.Slots.{slot_value}
+use Rattle.unpack_commands.specs.RescueSteps.{IsRescuedFrom}
+use Rattle.log_source.specs.RescueSteps.{IsRescuedListed}
+use Rattle.log_source.specs.Slots.{slot_value}
 use Rattle.unpack_commands.proofs.Listed.{listed_alone, rescued_weaker}
-use Rattle.unpack_commands.proofs.Results.{match_weaker}
+use Rattle.log_source.proofs.Results.{match_weaker}
 use Rattle.unpack_commands.proofs.past_damage.rescue_listed.Goals as goal
 
 pub returns-in-None : goal.returns-in-None

@@ -4,12 +4,12 @@ use Rattle.prom_store.specs.Found.{Names}
 use Rattle.log_listing.specs.Listings.{AreListed}
 use Rattle.unpack_commands.specs.declared.rescue_writing.SlotCheckpoint.{SlotCheckpoint}
 use Rattle.unpack_commands.specs.declared.rescue_writing.SlotLog.{SlotLog}
-use Rattle.unpack_commands.specs.Logs.{seen_since}
-use Rattle.unpack_commands.specs.Rescued.{checkpoint_slots}
-use Rattle.unpack_commands.specs.Slots.{slot_value}
+use Rattle.unpack_commands.specs.Since.{seen_since}
+use Rattle.log_source.specs.Rescued.{checkpoint_slots}
+use Rattle.log_source.specs.Slots.{slot_value}
 use Rattle.unpack_commands.specs.Rescues.{failing_rescue, rescue_ending_of}
 use Rattle.unpack_commands.proofs.Listed.{listed_with, rescued_weaker}
-use Rattle.unpack_commands.proofs.Results.{match_weaker}
+use Rattle.log_source.proofs.Results.{match_weaker}
 use Rattle.unpack_commands.proofs.past_damage.rescue_with_checkpoint.Goals as goal
 
 pub returns : goal.returns

@@ -2,7 +2,7 @@ use Rattle.std.proofs.Common.{[], false, map, subst, sym, ◌∙◌}
 use Rattle.std.proofs.lemmas.Result.{IfOk-weaker}
 use Rattle.wal_log.specs.Plan.{named as name_of}
 use Rattle.prom_store.specs.Views.{view_of}
-use Rattle.unpack_commands.specs.Logs.{AreUnpackedIn}
+use Rattle.log_source.specs.Unpacked.{AreUnpackedIn}
 use Rattle.unpack_commands.proofs.Log.{behind_damage, behind_whole}
 use Rattle.unpack_commands.proofs.reading.find_damage.Goals as goal
 

@@ -1,7 +1,7 @@
 use Rattle.std.proofs.Common.{[], ◌∷◌, ◌++◌, refl}
 use Rattle.std.proofs.lemmas.List.{take_all}
 use Rattle.prom_store.specs.Views.{view_of}
-use Rattle.unpack_commands.proofs.Whole.{whole_all, whole_bad, whole_more}
+use Rattle.log_source.proofs.Whole.{whole_all, whole_bad, whole_more}
 use Rattle.unpack_commands.proofs.reading.first_damage.Goals as goal
 
 pub loop-named-init : goal.loop-named-init

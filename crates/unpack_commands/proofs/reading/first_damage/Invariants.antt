@@ -2,7 +2,7 @@ use Rattle.std.proofs.Common.{List, map, take}
 use Rattle.wal_log.specs.declared.input.Segment.{Segment}
 use Rattle.wal_log.specs.Plan.{named as name_of}
 use Rattle.prom_store.specs.Views.{view_of}
-use Rattle.unpack_commands.proofs.Whole.{AreWhole}
+use Rattle.log_source.proofs.Whole.{AreWhole}
 use Rattle.unpack_commands.proofs.reading.first_damage.Given as goal
 
 -- the files so far are whole

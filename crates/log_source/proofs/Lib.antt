@@ -1,0 +1,10 @@
+pub mod Appended
+pub mod Counted
+pub mod Events
+pub mod Readable
+pub mod Readings
+pub mod Results
+pub mod Slotted
+pub mod Told
+pub mod Unread
+pub mod Whole

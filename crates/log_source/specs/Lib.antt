@@ -1,0 +1,7 @@
+pub mod Directory
+pub mod Texts
+pub mod Unpacked
+pub mod Rescued
+pub mod RescueSteps
+pub mod Slots
+pub mod Sources
