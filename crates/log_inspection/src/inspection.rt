@@ -11,7 +11,7 @@ ghost use Rattle.log_inspection.specs.Inspections.{AreCheckpointSurveys, AreFold
 use crate::files::{FileSurvey, survey_file};
 use log_listing::{Listing, list_files, list_log, read_listed};
 use log_references::{References, Unbound};
-use prom_commands::names_in;
+use log_source::names_in;
 use prom_store::{Fault, Store, join};
 use std::alloc::{AllocError, Global};
 use std::path::Path;

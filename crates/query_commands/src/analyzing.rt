@@ -5,8 +5,7 @@ ghost use Rattle.std.specs.Prelude.{◌≡◌, false};
 use crate::analysis::{Layout, analysis_text};
 use head_core::Head;
 use head_ranks::{label_counts, metrics, name_counts, totals};
-use head_replay::Replayed;
-use prom_commands::{Answer, Progress, replay_in};
+use prom_commands::{Answer, Progress, ReplayedLog, replay_in};
 use prom_store::{AnalyzeRequest, Fault, Store};
 use std::alloc::{AllocError, Global};
 use std::sync::Wait;
@@ -31,11 +30,11 @@ fn analysis_of(alloc: Global, head: &Head, layout: Layout) -> Result<String, All
 }
 
 // Prints the analysis of a replayed log.
-fn analyzed(alloc: Global, replayed: &Replayed, layout: Layout) -> Result<Answer, Fault>
+fn analyzed(alloc: Global, replayed: &ReplayedLog, layout: Layout) -> Result<Answer, Fault>
     requires { replayed.now.head.failed ≡ false }
 {
     let text = analysis_of(alloc, &replayed.head, layout)?;
-    Ok(Answer::up_to(text, replayed.damage))
+    Ok(Answer::up_to(text, replayed.flaw))
 }
 
 fn execute<R: Threads + Wait + Sync, S: Store, P: Progress + Sync>(
@@ -47,11 +46,12 @@ fn execute<R: Threads + Wait + Sync, S: Store, P: Progress + Sync>(
 ) -> Result<Answer, Fault> {
     let AnalyzeRequest {
         dir,
+        form,
         most,
         bars,
         options,
     } = request;
-    let replayed = replay_in(rt, alloc, store, progress, dir, &options)?;
+    let replayed = replay_in(rt, alloc, store, progress, dir, form, &options)?;
     analyzed(alloc, &replayed, Layout { most, bars })
 }
 

@@ -10,8 +10,7 @@ ghost use Rattle.head_dump.specs.Dumps.{IsDump};
 ghost use Rattle.query_commands.specs.Requests.{IsDumpIn};
 
 use head_dump::{Selection, dump_text};
-use head_replay::Replayed;
-use prom_commands::{Answer, Pair, Progress, pair_of, replay_in, slots_of};
+use prom_commands::{Answer, Pair, Progress, ReplayedLog, pair_of, replay_in, slots_of};
 use prom_store::{DumpRequest, Fault, Store};
 use std::alloc::Global;
 use std::sync::Wait;
@@ -20,19 +19,19 @@ use std::thread::Threads;
 // Prints the samples that are selected of a replayed log, of the series that have this label, one a line.
 fn dumped(
     alloc: Global,
-    replayed: &Replayed,
+    replayed: &ReplayedLog,
     pair: &Option<Pair>,
     selection: &Selection,
     floats: bool,
 ) -> Result<Answer, Fault>
     requires { replayed.now.head.failed ≡ false }
     ensures { MatchResult result
-        (TellsUpTo (λ damage text. (replayed.now.damage ≡ damage)
+        (TellsUpTo (λ flaw text. (replayed.now.flaw ≡ flaw)
         × IsDump floats selection.now replayed.now.head.content (slots_of replayed.now.head.content (option_map (λ p. (p.0.items, p.1.items)) pair.now)) text)) TellsNoDamage }
 {
     let head = &replayed.head;
     let text = dump_text(alloc, head, slots_of(head, pair), selection, floats)?;
-    Ok(Answer::up_to(text, replayed.damage))
+    Ok(Answer::up_to(text, replayed.flaw))
 }
 
 // Returns which samples a request selects.
@@ -53,12 +52,18 @@ fn execute<R: Threads + Wait + Sync, S: Store, P: Progress + Sync>(
     progress: &P,
     request: DumpRequest<'_>,
 ) -> Result<Answer, Fault>
-    ensures { MatchResult result (TellsUpTo (IsDumpIn (view_of (S.holds store.now)) request.entry.dir.now (option_map (λ w. w.now) request.entry.pair) request.entry.options.min_valid
+    ensures { MatchResult result (TellsUpTo (IsDumpIn request.entry.form (view_of (S.holds store.now)) request.entry.dir.now (option_map (λ w. w.now) request.entry.pair) request.entry.options.min_valid
         (record { from = request.entry.from; to = request.entry.to; with_hidden = request.entry.hidden }) request.entry.floats)) TellsNoDamage }
 {
     let pair = pair_of(alloc, request.pair)?;
     let selection = selection_of(&request);
-    let replayed = replay_in(rt, alloc, store, progress, request.dir, &request.options)?;
+    let DumpRequest {
+        dir,
+        form,
+        options,
+        ..
+    } = request;
+    let replayed = replay_in(rt, alloc, store, progress, dir, form, &options)?;
     dumped(alloc, &replayed, &pair, &selection, request.floats)
 }
 
@@ -71,7 +76,7 @@ pub fn carry_out_dump<R: Threads + Wait + Sync, S: Store, P: Progress + Sync>(
     progress: &P,
     request: DumpRequest<'_>,
 ) -> Answer
-    ensures { TellsUpTo (IsDumpIn (view_of (S.holds store.now)) request.entry.dir.now (option_map (λ w. w.now) request.entry.pair) request.entry.options.min_valid
+    ensures { TellsUpTo (IsDumpIn request.entry.form (view_of (S.holds store.now)) request.entry.dir.now (option_map (λ w. w.now) request.entry.pair) request.entry.options.min_valid
         (record { from = request.entry.from; to = request.entry.to; with_hidden = request.entry.hidden }) request.entry.floats) result }
 {
     match execute(rt, alloc, store, progress, request) {

@@ -8,7 +8,7 @@ ghost use Rattle.server_blocks.specs.Servers.{AreBlocksIn, AreBlocksOf, IsBlockI
 use crate::greatest::greatest_time;
 use crate::meta::{BlockTimes, times_in};
 use block_files::Ulid;
-use prom_commands::{names_in, read_in};
+use log_source::{names_in, read_in};
 use prom_store::{Fault, Store, join};
 use std::alloc::Global;
 

@@ -1,8 +1,8 @@
 use Rattle.std.proofs.Common.{List, ◌++◌, ap, refl, ◌∙◌, ℕ}
 use Rattle.prom_commands.specs.Printed.{damage_line}
 use Rattle.prom_commands.proofs.Answered.{tells_log}
-use Rattle.prom_commands.proofs.Told.{told_err}
-use Rattle.prom_commands.proofs.Unread.{no_memory}
+use Rattle.log_source.proofs.Told.{told_err}
+use Rattle.log_source.proofs.Unread.{no_memory}
 use Rattle.prom_commands.proofs.commands.listed.Goals as goal
 
 pub returns-in_err-text : goal.returns-in_err-text
@@ -13,5 +13,5 @@ returns-in_err-push_damage c = told_err _ _ c.from_residual-in_err-push_damage.r
 
 pub returns : goal.returns
 returns c =
-    tells_log _ c.told.result c.args.reading.now.damage c.told.ensures.done.0 c.told.ensures.damaged c.told.ensures.fault
-    (refl, c.told.ensures.printed ∙ c.in_ok-push_damage.ensures ∙ ap (λ (t : List ℕ). t ++ damage_line c.args.reading.now.damage) c.in_ok-text.ensures)
+    tells_log _ c.told.result c.args.flaw c.told.ensures.done.0 c.told.ensures.damaged c.told.ensures.fault
+    (refl, c.told.ensures.printed ∙ c.in_ok-push_damage.ensures ∙ ap (λ (t : List ℕ). t ++ damage_line c.args.flaw) c.in_ok-text.ensures)

@@ -2,7 +2,7 @@ use Rattle.std.proofs.Common.{subst, sym}
 use Rattle.prom_store.specs.Faults.{TellsNoDamage}
 use Rattle.prom_store.specs.Views.{view_of}
 use Rattle.prom_commands.proofs.Answered.{counts_told}
-use Rattle.prom_commands.proofs.Told.{told_err}
+use Rattle.log_source.proofs.Told.{told_err}
 use Rattle.prom_commands.proofs.commands.replay.Goals as goal
 
 pub returns-in_err-tallied : goal.returns-in_err-tallied
@@ -10,5 +10,5 @@ returns-in_err-tallied g c = told_err _ _ c.from_residual.result c.from_residual
 
 pub returns : goal.returns
 returns g c =
-    counts_told (view_of (g.S.Store.holds c.args.store.now)) c.args.dir.now c.in_ok-tallied.tallied.damage TellsNoDamage c.counted.result c.args.options.now.min_valid c.in_ok-tallied.tallied.counts c.in_ok-tallied.tallied.series
+    counts_told c.args.form (view_of (g.S.Store.holds c.args.store.now)) c.args.dir.now c.in_ok-tallied.tallied.flaw TellsNoDamage c.counted.result c.args.options.now.min_valid c.in_ok-tallied.tallied.counts c.in_ok-tallied.tallied.series
     c.in_ok-tallied.ensures.counts c.counted.ensures

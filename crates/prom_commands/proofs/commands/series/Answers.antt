@@ -2,7 +2,7 @@ use Rattle.std.proofs.Common.{subst, sym}
 use Rattle.prom_store.specs.Faults.{TellsNoDamage}
 use Rattle.prom_store.specs.Views.{view_of}
 use Rattle.prom_commands.proofs.Answered.{series_told}
-use Rattle.prom_commands.proofs.Told.{told_err}
+use Rattle.log_source.proofs.Told.{told_err}
 use Rattle.prom_commands.proofs.commands.series.Goals as goal
 
 pub returns-in_err-pair : goal.returns-in_err-pair
@@ -13,5 +13,5 @@ returns-in_err-replayed g c = told_err _ _ c.from_residual-in_err-replayed.resul
 
 pub returns : goal.returns
 returns g c =
-    series_told (view_of (g.S.Store.holds c.args.store.now)) c.args.dir.now c.in_ok-replayed.replayed.damage TellsNoDamage c.selected.result _ c.args.options.now.min_valid c.in_ok-replayed.replayed.head.content _
+    series_told c.args.form (view_of (g.S.Store.holds c.args.store.now)) c.args.dir.now c.in_ok-replayed.replayed.flaw TellsNoDamage c.selected.result _ c.args.options.now.min_valid c.in_ok-replayed.replayed.head.content _
     c.in_ok-replayed.ensures.content c.in_ok-pair.ensures c.selected.ensures

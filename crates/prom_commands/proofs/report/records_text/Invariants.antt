@@ -5,4 +5,4 @@ use Rattle.prom_commands.proofs.report.records_text.Given as goal
 
 -- the lines of the records so far
 abbrev pub invariant-loop-record : goal.invariant-loop-record
-invariant-loop-record l = string_bytes l.text ≡ flat_map record_line (take l.record-index l.record-items)
+invariant-loop-record l = string_bytes l.text ≡ flat_map record_line (take l.record-index l.records)

@@ -1,7 +1,7 @@
 use Rattle.std.proofs.Common.{subst, sym}
 use Rattle.prom_store.specs.Faults.{TellsNoDamage}
 use Rattle.prom_store.specs.Views.{view_of}
-use Rattle.prom_commands.proofs.Told.{told_err}
+use Rattle.log_source.proofs.Told.{told_err}
 use Rattle.query_commands.proofs.Requested.{dumped_in}
 use Rattle.query_commands.proofs.dumping.execute.Goals as goal
 
@@ -13,6 +13,6 @@ returns-in_err-replayed g c = told_err _ _ c.from_residual-in_err-replayed.resul
 
 pub returns : goal.returns
 returns g c =
-    dumped_in c.dumped.result TellsNoDamage (view_of (g.S.Store.holds c.args.store.now)) c.args.request.dir.now _ c.args.request.options.min_valid
-    c.selection_of-selection.result _ c.args.request.floats c.in_ok-replayed.replayed.damage c.in_ok-replayed.replayed.head.content _ c.selection_of-selection.ensures
+    dumped_in c.dumped.result TellsNoDamage c.args.request.form (view_of (g.S.Store.holds c.args.store.now)) c.args.request.dir.now _ c.args.request.options.min_valid
+    c.selection_of-selection.result _ c.args.request.floats c.in_ok-replayed.replayed.flaw c.in_ok-replayed.replayed.head.content _ c.selection_of-selection.ensures
     c.in_ok-pair.ensures c.in_ok-replayed.ensures.content c.dumped.ensures
