@@ -1,4 +1,4 @@
--- The hours that can be cut, as they are found.
+-- The hours with samples, as they are found.
 use Rattle.std.proofs.Common.{◌≡◌, ℕ, ◌+◌, ◌<◌, ◌⊎◌, inl, inr, true, List, [], ◌∷◌, ◌++◌, length, get_or, take, refl, sym, subst, ◌∙◌, arith}
 use Rattle.std.specs.Prelude.{ℤ, ◌↔◌, Contains, IsTrue}
 use Rattle.std.specs.List.Sorted.{IsPermutation, IsSorted, IsStrictlySortedBy}
@@ -19,8 +19,8 @@ use Rattle.head_column.specs.Hours.{IsEdge, is_in_hour}
 use Rattle.head_column.proofs.HourLaws.{one_hour}
 use Rattle.head_core.specs.Content.{Content}
 use Rattle.head_core.specs.Heads.{history_at}
-use Rattle.block_cut.specs.Cutting.{IsRangeBelow, IsRangeIn}
-use Rattle.block_cut.specs.Ranges.{Ascends, IsFull, IsRange}
+use Rattle.block_cut.specs.Cutting.{IsSampledBelow, IsSampledIn}
+use Rattle.block_cut.specs.Ranges.{Ascends, IsSampled}
 
 -- ---- one hour more
 
@@ -39,87 +39,80 @@ with_hour old new hour e k = (to, back) where
 
 -- ---- one sample more
 
-more_samples : (k : ℤ) (xs : List Sample) (x : Sample) (c : Content) → IsRangeIn k xs c → IsRangeIn k (xs ++ x ∷ []) c
-more_samples k xs x c h = record { full = h.full; whole = h.whole; sample = h.sample; is_sample = Contains-append_left xs (x ∷ []) h.sample h.is_sample; within = h.within }
+more_samples : (k : ℤ) (xs : List Sample) (x : Sample) → IsSampledIn k xs → IsSampledIn k (xs ++ x ∷ [])
+more_samples k xs x h = record { whole = h.whole; sample = h.sample; is_sample = Contains-append_left xs (x ∷ []) h.sample h.is_sample; within = h.within }
 
-fewer_samples : (k : ℤ) (xs : List Sample) (x : Sample) (c : Content) → IsRangeIn k (xs ++ x ∷ []) c → IsRangeIn k xs c ⊎ IsTrue (is_in_hour k x.time)
-fewer_samples k xs x c h = by (Contains-push_cases xs x h.sample h.is_sample) where
-  by : Contains xs h.sample ⊎ (x ≡ h.sample) → IsRangeIn k xs c ⊎ IsTrue (is_in_hour k x.time)
-  by (inl m) = inl (record { full = h.full; whole = h.whole; sample = h.sample; is_sample = m; within = h.within })
+fewer_samples : (k : ℤ) (xs : List Sample) (x : Sample) → IsSampledIn k (xs ++ x ∷ []) → IsSampledIn k xs ⊎ IsTrue (is_in_hour k x.time)
+fewer_samples k xs x h = by (Contains-push_cases xs x h.sample h.is_sample) where
+  by : Contains xs h.sample ⊎ (x ≡ h.sample) → IsSampledIn k xs ⊎ IsTrue (is_in_hour k x.time)
+  by (inl m) = inl (record { whole = h.whole; sample = h.sample; is_sample = m; within = h.within })
   by (inr e) = inr (subst (λ (s : Sample). IsTrue (is_in_hour k s.time)) (sym e) h.within)
 
-abbrev pub AreFound : List ℤ → List ℤ → List Sample → Content → Type 0
-AreFound old new samples c = (k : ℤ) → Contains new k ↔ (Contains old k ⊎ IsRangeIn k samples c)
+abbrev pub AreFound : List ℤ → List ℤ → List Sample → Type 0
+AreFound old new samples = (k : ℤ) → Contains new k ↔ (Contains old k ⊎ IsSampledIn k samples)
 
-pub found_one : (old now new : List ℤ) (xs : List Sample) (i : ℕ) (d : Sample) (hour : ℤ) (c : Content) → i < length xs → IsTrue (is_in_hour hour (get_or xs i d).time) → (IsEdge hour → ⊥) × IsFull hour c
-    → AreFound old now (take i xs) c → ((k : ℤ) → Contains new k ↔ (Contains now k ⊎ (k ≡ hour))) → AreFound old new (take (i + 1) xs) c
-found_one old now new xs i d hour c lt in' can found more k =
-    subst (λ (ys : List Sample). Contains new k ↔ (Contains old k ⊎ IsRangeIn k ys c)) (sym (take_more xs i d lt)) (λ h. to ((more k).0 h), back) where
-      x : Sample
-      x = get_or xs i d
-
-      all : List Sample
-      all = take i xs ++ x ∷ []
-
-      before : Contains old k ⊎ IsRangeIn k (take i xs) c → Contains old k ⊎ IsRangeIn k (take i xs ++ get_or xs i d ∷ []) c
+pub found_one : (old now new : List ℤ) (xs : List Sample) (i : ℕ) (d : Sample) (hour : ℤ) → i < length xs → IsTrue (is_in_hour hour (get_or xs i d).time) → (IsEdge hour → ⊥)
+    → AreFound old now (take i xs) → ((k : ℤ) → Contains new k ↔ (Contains now k ⊎ (k ≡ hour))) → AreFound old new (take (i + 1) xs)
+found_one old now new xs i d hour lt in' whole found more k =
+    subst (λ (ys : List Sample). Contains new k ↔ (Contains old k ⊎ IsSampledIn k ys)) (sym (take_more xs i d lt)) (λ h. to ((more k).0 h), back) where
+      before : Contains old k ⊎ IsSampledIn k (take i xs) → Contains old k ⊎ IsSampledIn k (take i xs ++ get_or xs i d ∷ [])
       before (inl h) = inl h
-      before (inr h) = inr (more_samples k (take i xs) (get_or xs i d) c h)
+      before (inr h) = inr (more_samples k (take i xs) (get_or xs i d) h)
 
-      to : Contains now k ⊎ (k ≡ hour) → Contains old k ⊎ IsRangeIn k (take i xs ++ get_or xs i d ∷ []) c
+      to : Contains now k ⊎ (k ≡ hour) → Contains old k ⊎ IsSampledIn k (take i xs ++ get_or xs i d ∷ [])
       to (inl h) = before ((found k).0 h)
-      to (inr e) = inr (subst (λ (l : ℤ). IsRangeIn l (take i xs ++ get_or xs i d ∷ []) c) (sym e)
-          (record { full = can.1; whole = can.0; sample = get_or xs i d; is_sample = Contains-push (take i xs) (get_or xs i d); within = in' }))
+      to (inr e) = inr (subst (λ (l : ℤ). IsSampledIn l (take i xs ++ get_or xs i d ∷ [])) (sym e)
+          (record { whole = whole; sample = get_or xs i d; is_sample = Contains-push (take i xs) (get_or xs i d); within = in' }))
 
-      last : IsRangeIn k (take i xs) c ⊎ IsTrue (is_in_hour k (get_or xs i d).time) → Contains new k
+      last : IsSampledIn k (take i xs) ⊎ IsTrue (is_in_hour k (get_or xs i d).time) → Contains new k
       last (inl h) = (more k).1 (inl ((found k).1 (inr h)))
       last (inr h) = (more k).1 (inr (one_hour k hour (get_or xs i d).time h in'))
 
-      back : Contains old k ⊎ IsRangeIn k (take i xs ++ get_or xs i d ∷ []) c → Contains new k
+      back : Contains old k ⊎ IsSampledIn k (take i xs ++ get_or xs i d ∷ []) → Contains new k
       back (inl h) = (more k).1 (inl ((found k).1 (inl h)))
-      back (inr h) = last (fewer_samples k (take i xs) (get_or xs i d) c h)
+      back (inr h) = last (fewer_samples k (take i xs) (get_or xs i d) h)
 
-pub found_none : (old now : List ℤ) (xs : List Sample) (i : ℕ) (d : Sample) (hour : ℤ) (c : Content) → i < length xs → IsTrue (is_in_hour hour (get_or xs i d).time) → ((IsEdge hour → ⊥) × IsFull hour c → ⊥)
-    → AreFound old now (take i xs) c → AreFound old now (take (i + 1) xs) c
-found_none old now xs i d hour c lt in' not found k =
-    subst (λ (ys : List Sample). Contains now k ↔ (Contains old k ⊎ IsRangeIn k ys c)) (sym (take_more xs i d lt)) (λ h. before ((found k).0 h), back) where
-      before : Contains old k ⊎ IsRangeIn k (take i xs) c → Contains old k ⊎ IsRangeIn k (take i xs ++ get_or xs i d ∷ []) c
+pub found_none : (old now : List ℤ) (xs : List Sample) (i : ℕ) (d : Sample) (hour : ℤ) → i < length xs → IsTrue (is_in_hour hour (get_or xs i d).time) → IsEdge hour
+    → AreFound old now (take i xs) → AreFound old now (take (i + 1) xs)
+found_none old now xs i d hour lt in' edge found k =
+    subst (λ (ys : List Sample). Contains now k ↔ (Contains old k ⊎ IsSampledIn k ys)) (sym (take_more xs i d lt)) (λ h. before ((found k).0 h), back) where
+      before : Contains old k ⊎ IsSampledIn k (take i xs) → Contains old k ⊎ IsSampledIn k (take i xs ++ get_or xs i d ∷ [])
       before (inl h) = inl h
-      before (inr h) = inr (more_samples k (take i xs) (get_or xs i d) c h)
+      before (inr h) = inr (more_samples k (take i xs) (get_or xs i d) h)
 
-      last : IsRangeIn k (take i xs ++ get_or xs i d ∷ []) c → IsRangeIn k (take i xs) c ⊎ IsTrue (is_in_hour k (get_or xs i d).time) → Contains now k
+      last : IsSampledIn k (take i xs ++ get_or xs i d ∷ []) → IsSampledIn k (take i xs) ⊎ IsTrue (is_in_hour k (get_or xs i d).time) → Contains now k
       last h (inl m) = (found k).1 (inr m)
-      last h (inr m) = (let e : k ≡ hour = one_hour k hour (get_or xs i d).time m in' in absurd (not (subst (λ (l : ℤ). IsEdge l → ⊥) e h.whole, subst (λ (l : ℤ). IsFull l c) e h.full)))
+      last h (inr m) = absurd (h.whole (subst IsEdge (sym (one_hour k hour (get_or xs i d).time m in')) edge))
 
-      back : Contains old k ⊎ IsRangeIn k (take i xs ++ get_or xs i d ∷ []) c → Contains now k
+      back : Contains old k ⊎ IsSampledIn k (take i xs ++ get_or xs i d ∷ []) → Contains now k
       back (inl h) = (found k).1 (inl h)
-      back (inr h) = last h (fewer_samples k (take i xs) (get_or xs i d) c h)
+      back (inr h) = last h (fewer_samples k (take i xs) (get_or xs i d) h)
 
 -- ---- one series more
 
 abbrev pub AreFoundBelow : ℕ → List ℤ → Content → Type 0
-AreFoundBelow n hours c = (k : ℤ) → Contains hours k ↔ IsRangeBelow n k c
+AreFoundBelow n hours c = (k : ℤ) → Contains hours k ↔ IsSampledBelow n k c
 
 pub found_no_series : (hours : List ℤ) (c : Content) → hours ≡ [] → AreFoundBelow 0 hours c
 found_no_series [] c e k = (λ h. absurd (omega (arith, h.1)), λ r. absurd (omega (arith, r.below)))
 found_no_series (h ∷ hs) c e k = absurd cc
 
-pub found_series : (n : ℕ) (hours new : List ℤ) (samples : List Sample) (c : Content) → samples ≡ (history_at c n).samples → AreFoundBelow n hours c → AreFound hours new samples c → AreFoundBelow (n + 1) new c
+pub found_series : (n : ℕ) (hours new : List ℤ) (samples : List Sample) (c : Content) → samples ≡ (history_at c n).samples → AreFoundBelow n hours c → AreFound hours new samples → AreFoundBelow (n + 1) new c
 found_series n hours new samples c e below more k = (λ h. to ((more k).0 h), back) where
-  to : Contains hours k ⊎ IsRangeIn k samples c → IsRangeBelow (n + 1) k c
+  to : Contains hours k ⊎ IsSampledIn k samples → IsSampledBelow (n + 1) k c
   to (inl h) = (let r = (below k).0 h in record { slot = r.slot; below = omega (arith, r.below); some = r.some })
-  to (inr r) = record { slot = n; below = omega arith; some = subst (λ (xs : List Sample). IsRangeIn k xs c) e r }
+  to (inr r) = record { slot = n; below = omega arith; some = subst (IsSampledIn k) e r }
 
-  back : IsRangeBelow (n + 1) k c → Contains new k
+  back : IsSampledBelow (n + 1) k c → Contains new k
   back r = elim (cases_lt r.slot n) [
     | inl lt ↦ (more k).1 (inl ((below k).1 (record { slot = r.slot; below = lt; some = r.some })))
-    | inr ge ↦ (let is : r.slot ≡ n = omega (arith, r.below, ge) in (more k).1 (inr (subst (λ (xs : List Sample). IsRangeIn k xs c) (sym e) (subst (λ (slot : ℕ). IsRangeIn k (history_at c slot).samples c) is r.some))))
+    | inr ge ↦ (let is : r.slot ≡ n = omega (arith, r.below, ge) in (more k).1 (inr (subst (IsSampledIn k) (sym e) (subst (λ (slot : ℕ). IsSampledIn k (history_at c slot).samples) is r.some))))
   ]
 
-pub found_all : (hours : List ℤ) (c : Content) → length c.histories ≡ length c.table.series → AreFoundBelow (length c.table.series) hours c → (k : ℤ) → Contains hours k ↔ IsRange k c
+pub found_all : (hours : List ℤ) (c : Content) → length c.histories ≡ length c.table.series → AreFoundBelow (length c.table.series) hours c → (k : ℤ) → Contains hours k ↔ IsSampled k c
 found_all hours c each found k = (λ h. to ((found k).0 h), λ r. (found k).1 (back r)) where
-  to : IsRangeBelow (length c.table.series) k c → IsRange k c
+  to : IsSampledBelow (length c.table.series) k c → IsSampled k c
   to r = record {
-    full = r.some.full;
     some = record {
       history = history_at c r.slot;
       sample = r.some.sample;
@@ -130,19 +123,19 @@ found_all hours c each found k = (λ h. to ((found k).0 h), λ r. (found k).1 (b
     whole = r.some.whole;
   }
 
-  back : IsRange k c → IsRangeBelow (length c.table.series) k c
+  back : IsSampled k c → IsSampledBelow (length c.table.series) k c
   back r =
       let there = r.some.is_history in
       let is : history_at c there.0 ≡ r.some.history = unwrap_or-slice_get c.histories there.0 no_history ∙ get_or_default c.histories there.0 no_history r.some.history there.1 ∙ there.2 in
       record {
         slot = there.0;
         below = omega (arith, there.1, each);
-        some = record { full = r.full; whole = r.whole; sample = r.some.sample; is_sample = subst (λ (h : History). Contains h.samples r.some.sample) (sym is) r.some.is_sample; within = r.some.within };
+        some = record { whole = r.whole; sample = r.some.sample; is_sample = subst (λ (h : History). Contains h.samples r.some.sample) (sym is) r.some.is_sample; within = r.some.within };
       }
 
 -- ---- sorted, and each once
 
-ascends : (ks : List ℤ) → IsStrictlySortedBy int_cmp ks → Ascends ks
+pub ascends : (ks : List ℤ) → IsStrictlySortedBy int_cmp ks → Ascends ks
 unfolding IsStrictlySortedBy
 ascends [] h = tt
 ascends (k ∷ []) h = tt

@@ -4,3 +4,4 @@ pub mod Spans
 pub mod Written
 pub mod Placing
 pub mod Found
+pub mod Full

@@ -1,5 +1,5 @@
 -- Words of private functions and of proofs: the steps from a head to a block.
-use Rattle.std.specs.Prelude.{◌≡◌, ◌<◌, ℕ, ℤ, List, All, Contains, IsTrue, length, map}
+use Rattle.std.specs.Prelude.{◌≡◌, ◌<◌, ℕ, ℤ, Bool, false, List, Option, None, Some, All, Contains, IsTrue, int_lt, length, map}
 use Rattle.std.specs.List.{zip, sum_by}
 use Rattle.std.specs.declared.cmp.Ordering.TheVariants.{Less}
 use Rattle.wal_record.specs.Labels.{Labels, compare_labels}
@@ -16,10 +16,9 @@ use Rattle.block_files.specs.declared.encoding.Encoding.{Encoding}
 use Rattle.block_files.specs.declared.tombstones.Tombstone.{Tombstone}
 use Rattle.block_files.specs.Files.{references, texts}
 use Rattle.block_read.specs.declared.rows.BlockRow.{BlockRow}
-use Rattle.block_read.specs.Blocks.{IsRowOf, file_limit, meta_of}
+use Rattle.block_read.specs.Blocks.{IsRowOf, file_limit, hour_last, meta_of}
 use Rattle.hour_rows.specs.declared.rows.CutRow.{CutRow}
 use Rattle.hour_rows.specs.Chunked.{in_chunks}
-use Rattle.block_cut.specs.Ranges.{IsFull}
 
 -- These are rows of the hour with their samples in chunks of this encoding: at least one, in the order of label sets.
 pub record AreCutRows (e : Encoding) (k : ℤ) (rows : List CutRow) : Type 0 where
@@ -53,16 +52,24 @@ chunk_count chunks = sum_by (λ (c : Chunk). c.count) chunks
 abbrev pub sample_count : List (List Chunk) → ℕ
 sample_count rows = sum_by chunk_count rows
 
--- One of these samples is in the hour, which is full and no edge.
-pub record IsRangeIn (k : ℤ) (samples : List Sample) (c : Content) : Type 0 where
-  pub full : IsFull k c
+-- One of these samples is in the hour, which is no edge.
+pub record IsSampledIn (k : ℤ) (samples : List Sample) : Type 0 where
   pub whole : IsEdge k → ⊥
   pub sample : Sample
   pub is_sample : Contains samples sample
   pub within : IsTrue (is_in_hour k sample.time)
 
--- A sample of one of the first n series is in the hour, which is full and no edge.
-pub record IsRangeBelow (n : ℕ) (k : ℤ) (c : Content) : Type 0 where
+-- A sample of one of the first n series is in the hour, which is no edge.
+pub record IsSampledBelow (n : ℕ) (k : ℤ) (c : Content) : Type 0 where
   pub slot : ℕ
   pub below : slot < n
-  pub some : IsRangeIn k (history_at c slot).samples c
+  pub some : IsSampledIn k (history_at c slot).samples
+
+-- whether this time is past the hour
+abbrev pub is_past : Option ℤ → ℤ → Bool
+is_past None k = false
+is_past (Some t) k = int_lt (hour_last k) t
+
+-- whether the hour is full
+abbrev pub is_full_in : Content → ℤ → Bool
+is_full_in c k = is_past c.max_time k

@@ -18,6 +18,11 @@ pub record HasSample (k : ℤ) (c : Content) : Type 0 where
   pub is_sample : Contains history.samples sample
   pub within : IsTrue (is_in_hour k sample.time)
 
+-- the hour has an accepted sample, and is no edge
+pub record IsSampled (k : ℤ) (c : Content) : Type 0 where
+  pub some : HasSample k c
+  pub whole : IsEdge k → ⊥
+
 -- the hour is full, has an accepted sample, and is no edge
 pub record IsRange (k : ℤ) (c : Content) : Type 0 where
   pub full : IsFull k c

@@ -1,10 +1,13 @@
 //! Laws of the definitions.
 
-ghost use Rattle.std.specs.Prelude.{◌≡◌, ℤ, List, Option};
+ghost use Rattle.std.specs.Prelude.{◌≡◌, ◌↔◌, ℤ, List, Option, Contains, IsTrue};
 ghost use Rattle.wal_log.specs.Inputs.{Files};
 ghost use Rattle.wal_log.specs.Log.{IsReading, contents};
 ghost use Rattle.wal_log.specs.declared.reading.Damage.{Damage as LogDamage};
 ghost use Rattle.wal_log.specs.declared.reading.Placed.{Placed as PlacedRecord};
+ghost use Rattle.head_column.specs.declared.items.Sample.{Sample};
+ghost use Rattle.head_column.specs.Histories.{History};
+ghost use Rattle.head_column.specs.Hours.{IsEdge, is_in_hour};
 ghost use Rattle.head_resolver.specs.Taken.{taken_of};
 ghost use Rattle.head_core.specs.Content.{Content, IsContentOf};
 ghost use Rattle.block_text.specs.Sums.{Text};
@@ -12,6 +15,7 @@ ghost use Rattle.block_files.specs.declared.encoding.Encoding.{Encoding};
 ghost use Rattle.block_read.specs.declared.block.Block.{Block as Parts};
 ghost use Rattle.block_read.specs.Blocks.{IsBlockOf};
 ghost use Rattle.block_cut.specs.Logs.{IsBlockOfLog};
+ghost use Rattle.block_cut.specs.Ranges.{IsSampled};
 ghost use Rattle.hour_rows.specs.Rows.{rows_of};
 
 use head_core::one_content;
@@ -30,3 +34,11 @@ pub fn one_block()
     one_reading();
     one_content();
 }
+
+/// Proves that each accepted sample of a head is in one hour, and that this hour is among the hours that `sampled_hours` returns, unless it is
+/// an edge.
+pub fn one_hour()
+    ensures { (c : Content) (history : History) (sample : Sample) (hours : List ℤ) → Contains c.histories history → Contains history.samples sample →
+        ((k : ℤ) → Contains hours k ↔ IsSampled k c) →
+        (k : ℤ) × IsTrue (is_in_hour k sample.time) × ((l : ℤ) → IsTrue (is_in_hour l sample.time) → l ≡ k) × ((IsEdge k → ⊥) → Contains hours k) }
+{}

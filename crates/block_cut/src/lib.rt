@@ -12,7 +12,7 @@ pub use block_read::{
     BadUlid, Block, BlockFault, BlockRow, BlockRows, ReadFault, Ulid, read_block,
 };
 pub use block_text::WriteFault;
-pub use cutting::{cut, cut_in};
+pub use cutting::{cut, cut_any, cut_in};
 pub use fault::CutFault;
-pub use laws::one_block;
-pub use ranges::full_ranges;
+pub use laws::{one_block, one_hour};
+pub use ranges::{full_ranges, sampled_hours};

@@ -3,26 +3,15 @@
 ghost use Rattle.std.specs.Prelude.{◌≡◌, ◌<◌, ◌↔◌, ◌⊎◌, ℤ, false, length, Contains, IfOk, IsTrue, OnOk};
 ghost use Rattle.std.specs.Ordering.{int_cmp};
 ghost use Rattle.std.specs.List.Sorted.{IsPermutation, IsSorted};
-ghost use Rattle.head_column.specs.Hours.{IsEdge, is_in_hour};
-ghost use Rattle.block_cut.specs.Cutting.{IsRangeIn};
-ghost use Rattle.block_cut.specs.Ranges.{Ascends, IsFull, IsRange};
+ghost use Rattle.head_column.specs.Hours.{is_in_hour};
+ghost use Rattle.block_cut.specs.Cutting.{IsSampledIn};
+ghost use Rattle.block_cut.specs.Ranges.{Ascends, IsRange, IsSampled};
 
 use crate::cutting::is_full;
 use head_column::{Hour, Sample};
 use head_core::Head;
 use head_series::Slot;
 use std::alloc::{AllocError, Global};
-
-// Returns whether the hour is full and no edge.
-fn can_be_cut(head: &Head, hour: Hour) -> bool
-    requires { head.now.failed ≡ false }
-    ensures { IsTrue result ↔ (IsEdge hour → ⊥) × IsFull hour head.now.content }
-{
-    if hour.is_edge() {
-        return false;
-    }
-    is_full(head, hour)
-}
 
 // Returns the hour of a sample.
 fn hour_of(sample: &Sample) -> Hour
@@ -44,14 +33,13 @@ fn push_new(hours: &mut Vec<Hour>, hour: Hour) -> Result<(), AllocError>
     Ok(())
 }
 
-// Appends the hours of samples that are full and no edge.
-fn add_hours(hours: &mut Vec<Hour>, head: &Head, samples: &[Sample]) -> Result<(), AllocError>
-    requires { head.now.failed ≡ false }
-    ensures { OnOk result ((k : ℤ) → Contains hours.new.items k ↔ (Contains hours.old.items k ⊎ IsRangeIn k samples.now head.now.content)) }
+// Appends the hours of samples that are no edge.
+fn add_hours(hours: &mut Vec<Hour>, samples: &[Sample]) -> Result<(), AllocError>
+    ensures { OnOk result ((k : ℤ) → Contains hours.new.items k ↔ (Contains hours.old.items k ⊎ IsSampledIn k samples.now)) }
 {
     for sample in samples {
         let hour = hour_of(sample);
-        if can_be_cut(head, hour) {
+        if !hour.is_edge() {
             push_new(hours, hour)?;
         }
     }
@@ -66,6 +54,23 @@ fn sort_hours(hours: &mut Vec<Hour>) -> Result<(), AllocError>
     hours.sort_by_key(|hour| hour.k())
 }
 
+/// Returns the hours of a head with an accepted sample, ascending, but for the edges. The head must not have failed.
+pub fn sampled_hours(alloc: Global, head: &Head) -> Result<Vec<Hour>, AllocError>
+    requires { head.now.failed ≡ false }
+    ensures ascending { IfOk result (λ hours. Ascends hours.items) }
+    ensures exact { IfOk result (λ hours. (k : ℤ) → Contains hours.items k ↔ IsSampled k head.now.content) }
+{
+    let series = head.series();
+    let mut hours = Vec::new(alloc);
+    for number in 0..series as u32 {
+        let samples = head.samples(Slot::new(number))?;
+        add_hours(&mut hours, &samples)?;
+    }
+    sort_hours(&mut hours)?;
+    hours.dedup();
+    Ok(hours)
+}
+
 /// Returns the hours of a head that can be cut, ascending: those that are full, have an accepted sample and are no edge. The head must
 /// not have failed.
 pub fn full_ranges(alloc: Global, head: &Head) -> Result<Vec<Hour>, AllocError>
@@ -73,13 +78,7 @@ pub fn full_ranges(alloc: Global, head: &Head) -> Result<Vec<Hour>, AllocError>
     ensures ascending { IfOk result (λ hours. Ascends hours.items) }
     ensures exact { IfOk result (λ hours. (k : ℤ) → Contains hours.items k ↔ IsRange k head.now.content) }
 {
-    let series = head.series();
-    let mut hours = Vec::new(alloc);
-    for number in 0..series as u32 {
-        let samples = head.samples(Slot::new(number))?;
-        add_hours(&mut hours, head, &samples)?;
-    }
-    sort_hours(&mut hours)?;
-    hours.dedup();
+    let mut hours = sampled_hours(alloc, head)?;
+    hours.retain(|hour| is_full(head, *hour));
     Ok(hours)
 }

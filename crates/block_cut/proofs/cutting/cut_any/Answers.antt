@@ -7,7 +7,7 @@ use Rattle.block_cut.specs.declared.fault.CutFault.TheVariants as cut
 use Rattle.block_cut.specs.Faults.{cut_fault}
 use Rattle.hour_rows.specs.Rows.{rows_of}
 use Rattle.block_cut.proofs.Written.{some_rows, too_large, unless}
-use Rattle.block_cut.proofs.cutting.cut_in.Goals as goal
+use Rattle.block_cut.proofs.cutting.cut_any.Goals as goal
 
 pub write_block-requires : goal.write_block-requires
 write_block-requires g c =
