@@ -1,5 +1,5 @@
 -- The files of a block lie in its folder.
-use Rattle.std.specs.Prelude.{ℕ, suc, ◌≡◌, ◌≢◌, ◌+◌, ◌-◌, ◌<◌, ◌≤◌, ◌&&◌, ◌||◌, ◌==◌, not, nat_le, Bool, true, false, T, IsTrue, List, [], ◌∷◌, ◌++◌, length, take, codes, refl, All}
+use Rattle.std.specs.Prelude.{ℕ, suc, ◌≡◌, ◌+◌, ◌<◌, ◌||◌, ◌==◌, not, Bool, true, false, T, IsTrue, List, [], ◌∷◌, ◌++◌, length, take, codes, refl, All}
 use Rattle.std.specs.List.{AllByRecursion}
 use Rattle.std.specs.Path.{HasNoSlash, has_no_slash, path_join, slash}
 use Rattle.std.proofs.Common.{ap, subst, sym, ◌∙◌, arith, get_or}

@@ -18,21 +18,21 @@ use Rattle.block_commands.specs.Printed.{Prints, Refuses}
 use Rattle.block_commands.specs.Folders.{CarriesOut, Cuts, WritesBlock}
 
 module _ {S : Type 0} (did : S → List Call → S → Type 0) (holds : S → List ℕ → Found → Type 0) (old new : S) (V W : Type 0) (less : V → W) where
-  writes_less : (out name : List ℕ) (block : Block) → WritesBlock did holds old out name block W new → WritesBlock did holds old out name block V new
+  pub writes_less : (out name : List ℕ) (block : Block) → WritesBlock did holds old out name block W new → WritesBlock did holds old out name block V new
   writes_less out name block (inl (same, failed)) = inl (same, λ v. failed (less v))
   writes_less out name block (inr (free, safe)) = inr (free, for_less did old _ _ new V W less safe)
 
   cuts_less : (request : CutRequest) → Cuts did holds old request W new → Cuts did holds old request V new
   cuts_less request (inl (same, failed)) = inl (same, λ v. failed (less v))
-  cuts_less request (inr (log, block, at, is, wrote)) = inr (log, block, at, is, writes_less _ _ block wrote)
+  cuts_less request (inr (log, own, block, at, unhurt, is, wrote)) = inr (log, own, block, at, unhurt, is, writes_less _ _ block wrote)
 
   pub carries_less : (request : BlockRequest) → CarriesOut did holds old request W new → CarriesOut did holds old request V new
   carries_less (asked.Cut request) has = cuts_less request has
-  carries_less (asked.Ranges dir options) has = has
+  carries_less (asked.Ranges dir form options) has = has
   carries_less (asked.Block path) has = has
 
 -- an answer that neither went well nor tells damage
 pub refused_prints : (view : View) (request : BlockRequest) (answer : Answer) (fault : Fault) → Refuses request fault → (answer.status ≡ Done → ⊥) → (answer.status ≡ Damaged → TellsDamage fault) → Prints view request answer
-refused_prints view (asked.Ranges dir options) answer fault refuses fails damaged = nothing_told _ answer fails (λ bad. refuses (damaged bad))
+refused_prints view (asked.Ranges dir form options) answer fault refuses fails damaged = nothing_told _ answer fails (λ bad. refuses (damaged bad))
 refused_prints view (asked.Cut request) answer fault refuses fails damaged = tt
 refused_prints view (asked.Block path) answer fault refuses fails damaged = tt

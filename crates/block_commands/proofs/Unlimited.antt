@@ -1,7 +1,6 @@
 -- With the least time of 64 bits as least valid time, nothing of a log is expired.
-use Rattle.std.proofs.Common.{◌≡◌, ℕ, ◌⊎◌, inl, inr, Bool, true, false, All, List, [], ◌∷◌, ◌++◌, Option, Some, None, cond, ap, sym, subst, ◌∙◌, refl, arith, map}
-use Rattle.std.specs.Prelude.{count_by, int_lt}
-use Rattle.std.specs.Int.{w64}
+use Rattle.std.proofs.Common.{◌≡◌, ℕ, inl, inr, Bool, false, All, List, [], ◌∷◌, ◌++◌, Option, Some, None, cond, ap, sym, subst, ◌∙◌, refl, arith}
+use Rattle.std.specs.Prelude.{count_by}
 use Rattle.std.proofs.lemmas.Int.{ints}
 use Rattle.std.proofs.lemmas.List.{map-append}
 use Rattle.std.proofs.lemmas.List.Elements.{All-append, All-head, All-nil, All-tail}

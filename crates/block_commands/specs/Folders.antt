@@ -1,5 +1,5 @@
 -- The folder of a block, and what a crash leaves where it is written.
-use Rattle.std.specs.Prelude.{◌≡◌, ◌⊎◌, ℕ, ◌+◌, All, List, [], ◌∷◌, ◌++◌, Option, codes}
+use Rattle.std.specs.Prelude.{◌≡◌, ◌⊎◌, ℕ, zero, suc, ◌+◌, All, List, [], ◌∷◌, ◌++◌, Option, codes}
 use Rattle.std.specs.Path.{path_join}
 use Rattle.prom_store.specs.Calls.{Call}
 use Rattle.prom_store.specs.Found.{Found}
@@ -15,7 +15,9 @@ use Rattle.prom_files.specs.Crashes.{IsCrashSafe}
 use Rattle.prom_files.specs.Disk.{File, Standing}
 use Rattle.prom_files.specs.Folders.{FileAt, LeavesFolder, LeavesOldOrFolder}
 use Rattle.prom_files.specs.Targets.{unfinished_of, zero_filled}
-use Rattle.prom_commands.specs.Directory.{IsLogIn}
+use Rattle.prom_store.specs.declared.damage.Flaw.{Flaw}
+use Rattle.log_source.specs.Sources.{IsSourceIn}
+use Rattle.prom_commands.specs.Answers.{IsNoDamage}
 
 -- the file of this name in a directory
 abbrev pub named : List ℕ → List ℕ → List ℕ → FileAt
@@ -25,6 +27,11 @@ named dir name bytes = record { path = path_join dir name; bytes = bytes }
 abbrev pub chunk_paths : List ℕ → ℕ → List Text → List FileAt
 chunk_paths dir n [] = []
 chunk_paths dir n (chunk ∷ chunks) = named dir (zero_filled 6 n) chunk ∷ chunk_paths dir (n + 1) chunks
+
+-- the paths of so many chunk files in a directory, numbered from n on
+abbrev pub numbered : List ℕ → ℕ → ℕ → List (List ℕ)
+numbered dir n zero = []
+numbered dir n (suc more) = path_join dir (zero_filled 6 n) ∷ numbered dir (n + 1) more
 
 -- the files of a block in a folder, those of chunks in the directory `dir`
 abbrev pub block_files : List ℕ → List ℕ → Block → List FileAt
@@ -59,15 +66,16 @@ WritesBlock did holds old out name block WentWell new =
     ((new ≡ old) × (WentWell → ⊥))
     ⊎ (IsFreeIn (view_of (holds old)) out name × IsCrashSafe did old (LeavesOldOrBlock out name block) (LeavesBlock out name block) WentWell new)
 
--- The block of the log in the directory was written, or the call failed before.
+-- The block of the log in the directory, in the form that is asked for, was written, or the call failed before. There was no damage up to which
+-- the log was read.
 abbrev pub Cuts : {S : Type 0} → (S → List Call → S → Type 0) → (S → List ℕ → Found → Type 0) → S → CutRequest → Type 0 → S → Type 0
 Cuts did holds old request WentWell new =
     ((new ≡ old) × (WentWell → ⊥))
-    ⊎ ((log : Files) × (block : Block) × IsLogIn (view_of (holds old)) request.dir.now log × IsBlockOfLog request.encoding log request.options.min_valid request.hour request.ulid.now block
+    ⊎ ((log : Files) × (own : Option Flaw) × (block : Block) × IsSourceIn request.form (view_of (holds old)) request.dir.now log own × IsNoDamage own × IsBlockOfLog request.encoding log request.options.min_valid request.hour request.ulid.now block
     × WritesBlock did holds old request.out.now request.ulid.now block WentWell new)
 
 -- A request to cut writes a block. The other requests change nothing.
 abbrev pub CarriesOut : {S : Type 0} → (S → List Call → S → Type 0) → (S → List ℕ → Found → Type 0) → S → BlockRequest → Type 0 → S → Type 0
 CarriesOut did holds old (asked.Cut request) WentWell new = Cuts did holds old request WentWell new
-CarriesOut did holds old (asked.Ranges dir options) WentWell new = new ≡ old
+CarriesOut did holds old (asked.Ranges dir form options) WentWell new = new ≡ old
 CarriesOut did holds old (asked.Block path) WentWell new = new ≡ old

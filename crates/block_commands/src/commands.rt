@@ -25,7 +25,9 @@ fn execute<R: Threads + Wait + Sync, S: Store, P: Progress + Sync>(
     ensures printed { MatchResult result (Prints (view_of (S.holds store.old)) request.entry) (Refuses request.entry) }
 {
     match request {
-        BlockRequest::Ranges { dir, options } => ranges(rt, alloc, store, progress, dir, &options),
+        BlockRequest::Ranges { dir, form, options } => {
+            ranges(rt, alloc, store, progress, dir, form, &options)
+        }
         BlockRequest::Cut(request) => cut_hour(rt, alloc, store, progress, request),
         BlockRequest::Block { path } => block(alloc, store, path),
     }

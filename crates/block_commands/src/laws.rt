@@ -1,6 +1,8 @@
 //! The laws of the whole.
 
-ghost use Rattle.std.specs.Prelude.{◌≡◌, ◌≤ℤ◌, ◌++◌, ℕ, ℤ, List, Option, Some};
+ghost use Rattle.std.specs.Prelude.{◌≡◌, ◌≤ℤ◌, ◌++◌, ℕ, ℤ, List, None, Option, Some};
+ghost use Rattle.std.specs.List.{AllZip};
+ghost use Rattle.wal_record.specs.Records.{IsRecord};
 ghost use Rattle.wal_record.specs.Validity.{least_time};
 ghost use Rattle.wal_log.specs.Checkpoints.{IsCheckpointOf, IsWholeCheckpointOf};
 ghost use Rattle.wal_log.specs.Inputs.{Files};
@@ -19,11 +21,13 @@ ghost use Rattle.block_read.specs.declared.block.Block.{Block as Parts};
 ghost use Rattle.block_read.specs.Blocks.{IsBlockOf};
 ghost use Rattle.block_cut.specs.Logs.{IsBlockOfLog};
 ghost use Rattle.hour_rows.specs.Rows.{rows_of};
+ghost use Rattle.block_commands.specs.Records.{IsLogOf};
 
 use block_cut::one_block;
 use head_core::{checkpoint, one_content, same_entries};
 use wal_log::{checkpoint_reads, one_reading, whole_checkpoint_reads, whole_records};
-use wal_record::valid_records;
+use wal_page::one_file;
+use wal_record::{one_record, valid_records};
 
 /// For every checkpoint, list of segments and number of workers, where no memory and no thread is refused, the head that `replay` gives and
 /// every byte of each block cut from it are those defined by the log's records read one after another, however the work was dealt.
@@ -32,14 +36,23 @@ use wal_record::valid_records;
 /// a log has one such head, up to what the views of a head show, and one damage (`head`): those of `replay_serial_from`. What `cut` ensures
 /// of a block of such a head makes it the block of the log (`block`), and there is one such block for an encoding of chunks, an hour and a
 /// name (`one`).
+///
+/// A rescue replays a log whose files have just the records of the stretches of the server's files (`IsRescuedLogIn`). Such a log reads as
+/// these records, and has no damage of its own (`records`); and any two such logs have the same blocks (`rescued`): each byte of them is
+/// defined by the records of the stretches, read one after another.
 pub fn however_dealt()
     ensures head { (log : Files) (m : ℤ) (damage other : Option LogDamage) (a b : Content) → IsReplayed log m damage a → IsReplayed log m other b → (damage ≡ other) × AreAlike a b }
     ensures block { (encoding : Encoding) (log : Files) (m hour : ℤ) (ulid : Text) (damage : Option LogDamage) (content : Content) (block : Parts) →
         IsReplayed log m damage content → IsBlockOf encoding block (record { ulid = ulid; hour = hour; rows = rows_of hour content }) →
         IsBlockOfLog encoding log m hour ulid block }
     ensures one { (encoding : Encoding) (log : Files) (m hour : ℤ) (ulid : Text) (a b : Parts) → IsBlockOfLog encoding log m hour ulid a → IsBlockOfLog encoding log m hour ulid b → a ≡ b }
+    ensures records { (records : List (List ℕ)) (log : Files) (placed : List PlacedRecord) (damage : Option LogDamage) → IsLogOf records log → IsReading log placed damage → (damage ≡ None) × AllZip IsRecord records (contents placed) }
+    ensures rescued { (encoding : Encoding) (records : List (List ℕ)) (first second : Files) (m hour : ℤ) (ulid : Text) (a b : Parts) → IsLogOf records first → IsLogOf records second →
+        IsBlockOfLog encoding first m hour ulid a → IsBlockOfLog encoding second m hour ulid b → a ≡ b }
 {
     // laws that the proof uses
+    one_file();
+    one_record();
     one_reading();
     one_content();
     one_block();

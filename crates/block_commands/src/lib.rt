@@ -14,6 +14,7 @@ mod report;
 mod writing;
 
 pub use commands::carry_out_block;
+pub use fault::of_cut;
 pub use laws::{checkpoint_equivalence, however_dealt, no_limit};
 pub use names::new_name;
 pub use parts::read_parts;

@@ -1,8 +1,12 @@
 //! Reading the parts of a block from a folder.
 
+ghost use Rattle.std.specs.Prelude.{◌≡◌, All, IfOk, map, string_bytes};
+ghost use Rattle.prom_store.specs.Found.{Bytes};
+ghost use Rattle.block_commands.specs.Folders.{block_files, chunk_paths, chunks_in, numbered};
+
 use block_read::Block;
 use hw_bytes::Items;
-use prom_commands::{names_in, read_in, read_paths};
+use log_source::{names_in, read_in, read_paths};
 use prom_files::six_digits;
 use prom_store::{Fault, Store, join};
 use std::alloc::{AllocError, Global};
@@ -29,23 +33,42 @@ fn chunk_count(alloc: Global, names: &[String]) -> Result<Option<u64>, AllocErro
     Ok(Some(count))
 }
 
-// Reads the chunk files in a directory, or none if one of its names is no chunk file's: a block has a chunk, so such a folder is refused
-// for its chunks once its index was accepted.
-fn read_chunks<S: Store>(alloc: Global, store: &S, dir: &str) -> Result<Items<Items<u8>>, Fault> {
-    let names = names_in(alloc, store, dir)?;
-    let count = chunk_count(alloc, &names)?.unwrap_or(0);
+// Returns the paths of so many chunk files in a directory.
+fn paths_of(alloc: Global, dir: &str, count: u64) -> Result<Vec<String>, AllocError>
+    ensures { IfOk result (λ paths. map string_bytes paths.items ≡ numbered dir.now 1 count) }
+{
     let mut paths = Vec::new(alloc);
-    for number in 1..=count {
-        let name = six_digits(alloc, number)?;
+    for before in 0..count {
+        let name = six_digits(alloc, before + 1)?;
         paths.push(join(alloc, dir, &name)?)?;
     }
-    let files = read_paths(alloc, store, &paths)?;
-    let chunks = files.into_iter().map(Items::from_vec).collect(alloc)?;
-    Ok(Items::from_vec(chunks))
+    Ok(paths)
 }
 
-/// Reads the parts of the block in a folder. All parts are read before any is checked.
-pub fn read_parts<S: Store>(alloc: Global, store: &S, path: &str) -> Result<Block, Fault> {
+// Wraps the bytes of files.
+fn wrapped(alloc: Global, files: Vec<Vec<u8>>) -> Result<Vec<Items<u8>>, AllocError>
+    ensures { IfOk result (λ chunks. chunks.items ≡ map (λ file. file.items) files.items) }
+{
+    files.into_iter().map(Items::from_vec).collect(alloc)
+}
+
+// Reads the chunk files in a directory, or none if one of its names is no chunk file's: a block has a chunk, so such a folder is refused
+// for its chunks once its index was accepted.
+fn read_chunks<S: Store>(alloc: Global, store: &S, dir: &str) -> Result<Items<Items<u8>>, Fault>
+    ensures { IfOk result (λ chunks. All (λ file. S.holds store.now file.path (Bytes file.bytes)) (chunk_paths dir.now 1 chunks)) }
+{
+    let names = names_in(alloc, store, dir)?;
+    let count = chunk_count(alloc, &names)?.unwrap_or(0);
+    let paths = paths_of(alloc, dir, count)?;
+    let files = read_paths(alloc, store, &paths)?;
+    Ok(Items::from_vec(wrapped(alloc, files)?))
+}
+
+/// Reads the parts of the block in a folder. All parts are read before any is checked. If one of the names in the folder's directory of chunk
+/// files is no chunk file's, there are no chunks among the parts.
+pub fn read_parts<S: Store>(alloc: Global, store: &S, path: &str) -> Result<Block, Fault>
+    ensures { IfOk result (λ block. All (λ file. S.holds store.now file.path (Bytes file.bytes)) (block_files path.now (chunks_in path.now) block)) }
+{
     let index = read_in(alloc, store, path, "index")?;
     let dir = join(alloc, path, "chunks")?;
     let chunks = read_chunks(alloc, store, &dir)?;

@@ -10,36 +10,37 @@ ghost use Rattle.block_commands.specs.Printed.{IsRangesText, range_line};
 
 use crate::report::ranges_text;
 use block_cut::full_ranges;
-use head_replay::{Options, Replayed};
-use prom_commands::{Answer, Progress, replay_in};
-use prom_store::{Fault, Store};
+use head_replay::Options;
+use prom_commands::{Answer, Progress, ReplayedLog, replay_in};
+use prom_store::{Fault, LogForm, Store};
 use std::alloc::Global;
 use std::sync::Wait;
 use std::thread::Threads;
 
 // Prints the full hours of a replayed log, one a line.
-fn listed(alloc: Global, replayed: &Replayed) -> Result<Answer, Fault>
+fn listed(alloc: Global, replayed: &ReplayedLog) -> Result<Answer, Fault>
     requires { replayed.now.head.failed ≡ false }
     ensures { MatchResult result
-        (TellsUpTo (λ damage text. (replayed.now.damage ≡ damage)
+        (TellsUpTo (λ flaw text. (replayed.now.flaw ≡ flaw)
         × (hours : List ℤ) × Ascends hours × ((k : ℤ) → Contains hours k ↔ IsRange k replayed.now.head.content) × (text ≡ flat_map range_line hours))) TellsNoDamage }
 {
     let hours = full_ranges(alloc, &replayed.head)?;
     let text = ranges_text(alloc, &hours)?;
-    Ok(Answer::up_to(text, replayed.damage))
+    Ok(Answer::up_to(text, replayed.flaw))
 }
 
-/// Prints the full hours of the log in a directory, up to its damage if it is damaged.
+/// Prints the full hours of the log in a directory, in this form, up to its damage if it is damaged.
 pub fn ranges<R: Threads + Wait + Sync, S: Store, P: Progress + Sync>(
     rt: &R,
     alloc: Global,
     store: &S,
     progress: &P,
     dir: &str,
+    form: LogForm,
     options: &Options,
 ) -> Result<Answer, Fault>
-    ensures { MatchResult result (TellsUpTo (IsRangesText (view_of (S.holds store.now)) dir.now options.now.min_valid)) TellsNoDamage }
+    ensures { MatchResult result (TellsUpTo (IsRangesText form (view_of (S.holds store.now)) dir.now options.now.min_valid)) TellsNoDamage }
 {
-    let replayed = replay_in(rt, alloc, store, progress, dir, options)?;
+    let replayed = replay_in(rt, alloc, store, progress, dir, form, options)?;
     listed(alloc, &replayed)
 }

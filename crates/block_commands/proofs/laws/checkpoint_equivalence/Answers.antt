@@ -1,4 +1,4 @@
-use Rattle.std.proofs.Common.{List, sym, subst, ap, ◌∙◌}
+use Rattle.std.proofs.Common.{List, sym, subst}
 use Rattle.wal_record.specs.declared.record.WalRecord.{WalRecord}
 use Rattle.head_resolver.specs.Taken.{taken_of}
 use Rattle.head_core.specs.Content.{IsContentOf}

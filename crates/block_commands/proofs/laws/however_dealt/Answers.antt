@@ -3,6 +3,8 @@ use Rattle.wal_log.specs.declared.reading.Placed.{Placed}
 use Rattle.wal_log.specs.Log.{contents}
 use Rattle.head_resolver.specs.Taken.{taken_of}
 use Rattle.head_core.specs.Content.{IsContentOf}
+use Rattle.wal_record.specs.declared.record.WalRecord.{WalRecord}
+use Rattle.block_commands.proofs.Recorded.{log_whole, one_list}
 use Rattle.block_commands.proofs.laws.however_dealt.Goals as goal
 
 pub returns-clause-head : goal.returns-clause-head
@@ -16,3 +18,21 @@ returns-clause-block c = λ encoding log m hour ulid damage content block x is. 
 
 pub returns-clause-one : goal.returns-clause-one
 returns-clause-one c = c.one_block.ensures.one
+
+pub returns-clause-records : goal.returns-clause-records
+returns-clause-records c = log_whole c.one_file.ensures
+
+pub returns-clause-rescued : goal.returns-clause-rescued
+returns-clause-rescued c = λ encoding records first second m hour ulid a b p q x y.
+    let one = (log_whole c.one_file.ensures records first x.records x.damage p x.reading).1 in
+    let other = (log_whole c.one_file.ensures records second y.records y.damage q y.reading).1 in
+    let same = one_list c.one_record.ensures records (contents x.records) (contents y.records) one other in
+    c.one_block.ensures.one encoding first m hour ulid a b x (record {
+      records = x.records;
+      damage = x.damage;
+      content = y.content;
+      reading = x.reading;
+      is_content = subst (λ (rs : List WalRecord). IsContentOf (taken_of m rs) y.content) (sym same) y.is_content;
+      min_valid = y.min_valid;
+      is_block = y.is_block;
+    })

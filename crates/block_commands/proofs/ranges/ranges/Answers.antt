@@ -1,10 +1,10 @@
 use Rattle.std.proofs.Common.{Option, subst, sym}
-use Rattle.wal_log.specs.declared.reading.Damage.{Damage}
 use Rattle.prom_store.specs.Faults.{TellsNoDamage}
 use Rattle.prom_store.specs.Views.{view_of}
+use Rattle.prom_store.specs.declared.damage.Flaw.{Flaw}
 use Rattle.prom_commands.specs.Replays.{IsReplayIn}
 use Rattle.prom_commands.proofs.Answered.{up_to_more}
-use Rattle.prom_commands.proofs.Told.{told_err}
+use Rattle.log_source.proofs.Told.{told_err}
 use Rattle.block_commands.specs.Printed.{IsRangesText}
 use Rattle.block_commands.proofs.ranges.ranges.Goals as goal
 
@@ -15,9 +15,9 @@ pub returns : goal.returns
 returns g c =
     let view = view_of (g.S.Store.holds c.args.store.now) in
     let content = c.in_ok-replayed.replayed.head.content in
-    up_to_more _ (IsRangesText view c.args.dir.now c.args.options.now.min_valid) (λ d text is. record {
+    up_to_more _ (IsRangesText c.args.form view c.args.dir.now c.args.options.now.min_valid) (λ d text is. record {
       content = content;
-      replayed = subst (λ (x : Option Damage). IsReplayIn view c.args.dir.now c.args.options.now.min_valid x content) is.0 c.in_ok-replayed.ensures.content;
+      replayed = subst (λ (x : Option Flaw). IsReplayIn c.args.form view c.args.dir.now c.args.options.now.min_valid x content) is.0 c.in_ok-replayed.ensures.content;
       hours = is.1;
       ascend = is.2;
       exact = is.3;
