@@ -1,0 +1,45 @@
+-- The blocks of a head are those of its log.
+use Rattle.std.specs.Prelude.{ℕ, ℤ, List, Option, None}
+use Rattle.std.proofs.Common.{inl, inr}
+use Rattle.wal_log.specs.Inputs.{Files}
+use Rattle.head_core.specs.Content.{Content}
+use Rattle.head_serial.specs.Replays.{IsReplayed}
+use Rattle.block_read.specs.declared.block.Block.{Block}
+use Rattle.block_text.specs.Sums.{Text}
+use Rattle.prom_store.specs.Calls.{Call}
+use Rattle.prom_store.specs.Found.{Found}
+use Rattle.prom_store.specs.Views.{view_of}
+use Rattle.prom_store.specs.declared.damage.Flaw.{Flaw}
+use Rattle.prom_store.specs.declared.requests.LogForm.{LogForm}
+use Rattle.log_source.specs.Sources.{IsSourceIn}
+use Rattle.prom_commands.specs.Answers.{IsNoDamage}
+use Rattle.rescue_commands.specs.Rescues.{IsBlockOfHour, WritesHours}
+use Rattle.rescue_commands.specs.Steps.{IsBlockOfHead, WritesHead}
+use Rattle.rescue_commands.proofs.Written.{have_less, have_more}
+
+block_of_hour : (log : Files) (m : ℤ) (content : Content) → IsReplayed log m None content → (hour : ℤ) (name : Text) (block : Block) → IsBlockOfHead content hour name block → IsBlockOfHour log m hour name block
+block_of_hour log m content replayed hour name block (ulid, is) = (
+  ulid,
+  record {
+    records = replayed.placed;
+    damage = None;
+    content = content;
+    reading = replayed.reading;
+    is_content = replayed.content;
+    min_valid = replayed.min_valid;
+    is_block = is;
+  },
+)
+
+module _ {S : Type 0} (did : S → List Call → S → Type 0) (holds : S → List ℕ → Found → Type 0) (old : S) (form : LogForm) (dir out : List ℕ) (m : ℤ) where
+  pub writes_hours : (log : Files) (own : Option Flaw) (content : Content) (W : Type 0) (new : S) → IsSourceIn form (view_of (holds old)) dir log own → IsNoDamage own → IsReplayed log m None content
+      → WritesHead did holds out content old W new → WritesHours did holds old form dir out m W new
+  writes_hours log own content W new source unhurt replayed (inl failed) = inl failed
+  writes_hours log own content W new source unhurt replayed (inr (hours, are, have)) =
+      inr (log, own, content, hours, source, unhurt, replayed, are, have_more did holds out (IsBlockOfHead content) (IsBlockOfHour log m) (block_of_hour log m content replayed) old new hours W have)
+
+  -- where less is known of whether all went well
+  pub hours_less : (V W : Type 0) (new : S) → (V → W) → WritesHours did holds old form dir out m W new → WritesHours did holds old form dir out m V new
+  hours_less V W new less (inl (same, failed)) = inl (same, (λ v. failed (less v)))
+  hours_less V W new less (inr (log, own, content, hours, source, unhurt, replayed, are, have)) =
+      inr (log, own, content, hours, source, unhurt, replayed, are, have_less did holds out (IsBlockOfHour log m) old new hours V W less have)

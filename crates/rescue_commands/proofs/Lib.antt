@@ -1,0 +1,4 @@
+pub mod Written
+pub mod Heads
+pub mod LostParts
+pub mod SameFiles

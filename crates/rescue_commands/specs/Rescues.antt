@@ -1,0 +1,81 @@
+-- What is written where a log becomes blocks, one for each hour that has a sample.
+use Rattle.std.specs.Prelude.{◌≡◌, ◌↔◌, ◌⊎◌, ℕ, ℤ, All, Contains, List, [], ◌∷◌, Option, None, Some, ⊤}
+use Rattle.std.specs.Path.{path_join}
+use Rattle.wal_log.specs.Inputs.{Files}
+use Rattle.block_files.specs.Ulids.{IsUlid}
+use Rattle.block_files.specs.declared.encoding.Encoding.TheVariants.{Xor}
+use Rattle.block_read.specs.declared.block.Block.{Block}
+use Rattle.block_text.specs.Sums.{Text}
+use Rattle.head_core.specs.Content.{Content}
+use Rattle.head_serial.specs.Replays.{IsReplayed}
+use Rattle.block_cut.specs.Logs.{IsBlockOfLog}
+use Rattle.block_cut.specs.Ranges.{Ascends, IsSampled}
+use Rattle.prom_store.specs.Calls.{Call}
+use Rattle.prom_store.specs.Found.{Bytes, Found}
+use Rattle.prom_store.specs.Views.{view_of}
+use Rattle.prom_store.specs.declared.damage.Flaw.{Flaw}
+use Rattle.prom_store.specs.declared.fault.Fault.TheVariants.{Lost}
+use Rattle.prom_store.specs.declared.requests.BlocksRequest.{BlocksRequest}
+use Rattle.prom_store.specs.declared.requests.LogForm.{LogForm}
+use Rattle.prom_store.specs.declared.requests.LogForm.TheVariants.{PastDamage}
+use Rattle.prom_store.specs.declared.requests.RescueRequest.{RescueRequest}
+use Rattle.prom_files.specs.Folders.{FileAt}
+use Rattle.log_source.specs.Sources.{IsSourceIn}
+use Rattle.prom_commands.specs.Answers.{IsNoDamage}
+use Rattle.prom_commands.specs.declared.commands.Answer.{Answer}
+use Rattle.block_commands.specs.Folders.{WritesBlock, block_files, chunks_in}
+
+-- ---- one hour
+
+-- this is the block of an hour of a log, with chunks that a server opens, under some ULID
+abbrev pub IsBlockOfHour : Files → ℤ → ℤ → Text → Block → Type 0
+IsBlockOfHour log m hour name block = IsUlid name × IsBlockOfLog Xor log m hour name block
+
+-- the files of a block are found in the folder of its name in a directory, byte for byte
+abbrev pub Stands : (List ℕ → Found → Type 0) → List ℕ → Text → Block → Type 0
+Stands found out name block = let folder = path_join out name in All (λ (file : FileAt). found file.path (Bytes file.bytes)) (block_files folder (chunks_in folder) block)
+
+module _ {S : Type 0} (did : S → List Call → S → Type 0) (holds : S → List ℕ → Found → Type 0) (out : List ℕ) (IsBlock : ℤ → Text → Block → Type 0) where
+  -- the block of an hour was written in the directory, or stood there already and was left
+  abbrev pub HasBlock : S → ℤ → S → Type 0
+  HasBlock old hour new = (name : Text) × (block : Block) × IsBlock hour name block
+      × (((new ≡ old) × Stands (holds old) out name block) ⊎ WritesBlock did holds old out name block ⊤ new)
+
+  -- its writing was begun, and did not go well
+  abbrev pub GivesUpBlock : S → ℤ → S → Type 0
+  GivesUpBlock old hour new = (name : Text) × (block : Block) × IsBlock hour name block × WritesBlock did holds old out name block ⊥ new
+
+  -- Hour by hour, its block was written or stood there. If not all went well, it was so up to some hour, whose block was given up, if it was
+  -- begun.
+  abbrev pub HaveBlocks : S → List ℤ → Type 0 → S → Type 0
+  HaveBlocks old [] WentWell new = new ≡ old
+  HaveBlocks old (hour ∷ hours) WentWell new =
+      ((middle : S) × HasBlock old hour middle × HaveBlocks middle hours WentWell new)
+      ⊎ ((WentWell → ⊥) × ((new ≡ old) ⊎ GivesUpBlock old hour new))
+
+-- ---- a log
+
+-- These are all hours that have a sample, ascending, but for an edge of time.
+pub record AreHours (c : Content) (hours : List ℤ) : Type 0 where
+  pub ascend : Ascends hours
+  pub exact : (k : ℤ) → Contains hours k ↔ IsSampled k c
+
+-- The log in a directory, in a form, was replayed, and hour by hour its blocks were written in the directory `out`; or the call failed before
+-- anything was written.
+abbrev pub WritesHours : {S : Type 0} → (S → List Call → S → Type 0) → (S → List ℕ → Found → Type 0) → S → LogForm → List ℕ → List ℕ → ℤ → Type 0 → S → Type 0
+WritesHours did holds old form dir out m WentWell new =
+    ((new ≡ old) × (WentWell → ⊥))
+    ⊎ ((log : Files) × (own : Option Flaw) × (content : Content) × (hours : List ℤ) × IsSourceIn form (view_of (holds old)) dir log own × IsNoDamage own
+    × IsReplayed log m None content × AreHours content hours × HaveBlocks did holds out (IsBlockOfHour log m) old hours WentWell new)
+
+-- nothing failed: no fault is reported, but for parts of the log that are lost
+abbrev pub IsWell : Answer → Type 0
+IsWell answer = (answer.fault ≡ None) ⊎ ((parts : ℕ) × (answer.fault ≡ Some (Lost parts)))
+
+-- what `blocks` does
+abbrev pub WritesBlocks : {S : Type 0} → (S → List Call → S → Type 0) → (S → List ℕ → Found → Type 0) → S → BlocksRequest → Type 0 → S → Type 0
+WritesBlocks did holds old request WentWell new = WritesHours did holds old request.form request.dir.now request.out.now request.options.min_valid WentWell new
+
+-- what `rescue` does
+abbrev pub RescuesBlocks : {S : Type 0} → (S → List Call → S → Type 0) → (S → List ℕ → Found → Type 0) → S → RescueRequest → Type 0 → S → Type 0
+RescuesBlocks did holds old request WentWell new = WritesHours did holds old PastDamage request.dir.now request.out.now request.options.min_valid WentWell new

@@ -1,0 +1,25 @@
+-- Words of private functions: the blocks of a head.
+use Rattle.std.specs.Prelude.{◌≡◌, ◌⊎◌, ℕ, ℤ, List}
+use Rattle.block_files.specs.Ulids.{IsUlid}
+use Rattle.block_files.specs.declared.encoding.Encoding.TheVariants.{Xor}
+use Rattle.block_read.specs.declared.block.Block.{Block}
+use Rattle.block_read.specs.Blocks.{IsBlockOf}
+use Rattle.block_text.specs.Sums.{Text}
+use Rattle.head_core.specs.Content.{Content}
+use Rattle.hour_rows.specs.Rows.{rows_of}
+use Rattle.prom_store.specs.Calls.{Call}
+use Rattle.prom_store.specs.Found.{Found}
+use Rattle.rescue_commands.specs.Rescues.{AreHours, GivesUpBlock, HaveBlocks}
+
+-- this is the block of an hour of a head with this content, with chunks that a server opens, under some ULID
+abbrev pub IsBlockOfHead : Content → ℤ → Text → Block → Type 0
+IsBlockOfHead content hour name block = IsUlid name × IsBlockOf Xor block (record { ulid = name; hour = hour; rows = rows_of hour content })
+
+-- nothing was written, or a block of the hour was begun and given up
+abbrev pub LeavesHour : {S : Type 0} → (S → List Call → S → Type 0) → (S → List ℕ → Found → Type 0) → List ℕ → Content → S → ℤ → S → Type 0
+LeavesHour did holds out content old hour new = (new ≡ old) ⊎ GivesUpBlock did holds out (IsBlockOfHead content) old hour new
+
+-- Hour by hour, the blocks of a head were written in a directory; or the call failed before anything was written.
+abbrev pub WritesHead : {S : Type 0} → (S → List Call → S → Type 0) → (S → List ℕ → Found → Type 0) → List ℕ → Content → S → Type 0 → S → Type 0
+WritesHead did holds out content old WentWell new =
+    ((new ≡ old) × (WentWell → ⊥)) ⊎ ((hours : List ℤ) × AreHours content hours × HaveBlocks did holds out (IsBlockOfHead content) old hours WentWell new)

@@ -1,0 +1,70 @@
+//! The command `blocks`: a log becomes blocks.
+
+ghost use Rattle.std.specs.Prelude.{IfOk, IsOk};
+ghost use Rattle.prom_store.specs.Views.{view_of};
+ghost use Rattle.log_source.specs.Sources.{IsSourceIn};
+ghost use Rattle.prom_commands.specs.Answers.{IsNoDamage};
+ghost use Rattle.rescue_commands.specs.Rescues.{IsWell, WritesBlocks};
+
+use crate::fault::failed;
+use crate::hours::write_hours;
+use crate::report::Telling;
+use block_read::Ulid;
+use log_source::{Source, read_source};
+use prom_commands::{Answer, Progress, check_undamaged, undamaged_head};
+use prom_store::{BlocksRequest, Fault, LogForm, Store};
+use std::alloc::Global;
+use std::sync::Wait;
+use std::thread::Threads;
+
+// Reads the log in a directory in a form. Returns `Damage` if it was read up to damage.
+fn undamaged_source<S: Store>(
+    alloc: Global,
+    store: &S,
+    dir: &str,
+    form: LogForm,
+) -> Result<Source, Fault>
+    ensures source { IfOk result (λ source. IsSourceIn form (view_of (S.holds store.now)) dir.now source.log source.flaw) }
+    ensures unhurt { IfOk result (λ source. IsNoDamage source.flaw) }
+{
+    let source = read_source(alloc, store, dir, form)?;
+    check_undamaged(source.flaw)?;
+    Ok(source)
+}
+
+// Carries out a request, or returns why it failed.
+fn execute<R: Threads + Wait + Sync, S: Store, P: Progress + Sync>(
+    rt: &R,
+    alloc: Global,
+    store: &mut S,
+    progress: &P,
+    request: BlocksRequest<'_>,
+) -> Result<Answer, Fault>
+    ensures crash { WritesBlocks S.did S.holds store.old request.entry (IsOk result) store.new }
+{
+    let Ok(ulid) = Ulid::new(request.ulid) else {
+        return Err(Fault::BadUlid);
+    };
+    let Source { log, flaw } = undamaged_source(alloc, store, request.dir, request.form)?;
+    let head = undamaged_head(rt, alloc, progress, log, &request.options)?;
+    let text = write_hours(rt, alloc, store, &head, request.out, ulid, &Telling::Blocks)?;
+    Ok(Answer::up_to(text, flaw))
+}
+
+/// Carries out a request: writes a block for each hour of a log that has a sample, and says which. Nothing is written if the name that is given
+/// is not a ULID, or if the log is damaged and not read past its damage. If parts of the log are lost, that is reported beside the blocks. Where
+/// it fails, the blocks of the hours before are written, and a later run leaves them.
+pub fn carry_out_blocks<R: Threads + Wait + Sync, S: Store, P: Progress + Sync>(
+    rt: &R,
+    alloc: Global,
+    store: &mut S,
+    progress: &P,
+    request: BlocksRequest<'_>,
+) -> Answer
+    ensures crash { WritesBlocks S.did S.holds store.old request.entry (IsWell result) store.new }
+{
+    match execute(rt, alloc, store, progress, request) {
+        Ok(answer) => answer,
+        Err(fault) => failed(alloc, fault),
+    }
+}

@@ -1,0 +1,93 @@
+//! The command `rescue`: all that can be read of a log becomes blocks.
+
+ghost use Rattle.std.specs.Prelude.{◌≡◌, IsOk, false};
+ghost use Rattle.rescue_commands.specs.Rescues.{IsWell, RescuesBlocks};
+ghost use Rattle.rescue_commands.specs.Steps.{WritesHead};
+
+use crate::fault::failed;
+use crate::hours::write_hours;
+use crate::lost::flaw_of;
+use crate::report::{Rescued, Telling};
+use block_read::Ulid;
+use head_core::{Counts, Head};
+use log_source::{FileRead, RescuedLog, read_rescued};
+use prom_commands::{Answer, Progress, undamaged_head};
+use prom_store::{Fault, RescueRequest, Store};
+use std::alloc::Global;
+use std::sync::Wait;
+use std::thread::Threads;
+
+// Returns the data directory whose blocks gave the least valid time, if they gave one.
+fn data_of<'a>(request: &RescueRequest<'a>) -> Option<&'a str> {
+    if request.options.min_valid == i64::MIN {
+        return None;
+    }
+    request.data
+}
+
+// Returns what is told beside the blocks.
+fn telling_of<'a>(request: RescueRequest<'a>, files: Vec<FileRead>, counts: Counts) -> Telling<'a> {
+    Telling::Rescue(Rescued {
+        data: data_of(&request),
+        min_valid: request.options.min_valid,
+        files,
+        unknown: counts.unknown,
+        unknown_deletions: counts.unknown_stones,
+        json: request.json,
+    })
+}
+
+// Writes the blocks of a head of all that can be read of a log, and returns the text that is printed.
+fn write_rescued<R: Threads + Sync, S: Store>(
+    rt: &R,
+    alloc: Global,
+    store: &mut S,
+    head: &Head,
+    request: RescueRequest<'_>,
+    first: Ulid,
+    files: Vec<FileRead>,
+) -> Result<String, Fault>
+    requires { head.now.failed ≡ false }
+    ensures crash { WritesHead S.did S.holds request.entry.out.now head.now.content store.old (IsOk result) store.new }
+{
+    let telling = telling_of(request, files, head.counts());
+    write_hours(rt, alloc, store, head, request.out, first, &telling)
+}
+
+// Carries out a request, or returns why it failed.
+fn execute<R: Threads + Wait + Sync, S: Store, P: Progress + Sync>(
+    rt: &R,
+    alloc: Global,
+    store: &mut S,
+    progress: &P,
+    request: RescueRequest<'_>,
+) -> Result<Answer, Fault>
+    ensures crash { RescuesBlocks S.did S.holds store.old request.entry (IsOk result) store.new }
+{
+    let Ok(ulid) = Ulid::new(request.ulid) else {
+        return Err(Fault::BadUlid);
+    };
+    let RescuedLog { log, files } = read_rescued(alloc, store, request.dir)?;
+    let flaw = flaw_of(&files)?;
+    let head = undamaged_head(rt, alloc, progress, log, &request.options)?;
+    let text = write_rescued(rt, alloc, store, &head, request, ulid, files)?;
+    Ok(Answer::up_to(text, flaw))
+}
+
+/// Carries out a request: writes a block for each hour of all that can be read of a log, and says which, what was read of each file and what is
+/// lost. Nothing is written if the name that is given is not a ULID. Where it fails, the blocks of the hours before are written, and a later run
+/// leaves them.
+pub fn carry_out_rescue<R: Threads + Wait + Sync, S: Store, P: Progress + Sync>(
+    rt: &R,
+    alloc: Global,
+    store: &mut S,
+    progress: &P,
+    request: RescueRequest<'_>,
+) -> Answer
+    ensures crash { RescuesBlocks S.did S.holds store.old request.entry (IsWell result) store.new }
+{
+    match execute(rt, alloc, store, progress, request) {
+        Ok(answer) => answer,
+        Err(fault) => failed(alloc, fault),
+    }
+}
