@@ -1,11 +1,17 @@
 -- What a command line asks for, where a data directory may give its least valid time.
-use Rattle.std.specs.Prelude.{◌≡◌, ℤ, MatchOption}
+use Rattle.std.specs.Prelude.{◌≡◌, ◌⊎◌, ℤ, Option, None, Some, true, MatchOption}
 use Rattle.prom_store.specs.Views.{View}
 use Rattle.prom_line.specs.Least.{from_least}
 use Rattle.prom_line.specs.declared.asked.Asked.{Asked}
 use Rattle.prom_line.specs.declared.asked.CommandLine.{CommandLine}
 use Rattle.server_blocks.specs.Servers.{IsLeastValidOf}
 
--- what it says, with the least valid time that the blocks of a data directory give, if it names one
+-- The least valid time that the blocks of a data directory give. There is none if the line has no such directory, or if that is only the one
+-- that the log is in.
+abbrev pub GivesLeast : View → CommandLine → Option ℤ → Type 0
+GivesLeast view line None = (line.min_valid_of ≡ None) ⊎ (line.is_beside ≡ true)
+GivesLeast view line (Some least) = MatchOption line.min_valid_of ⊥ (λ dir. IsLeastValidOf view dir.now least)
+
+-- what it says, with the least valid time that the blocks of a data directory give, if they give one
 abbrev pub IsAskedIn : View → CommandLine → Asked → Type 0
-IsAskedIn view line asked = MatchOption line.min_valid_of (asked ≡ line.asked) (λ dir. (least : ℤ) × IsLeastValidOf view dir.now least × (asked ≡ from_least least line.asked))
+IsAskedIn view line asked = (found : Option ℤ) × GivesLeast view line found × MatchOption found (asked ≡ line.asked) (λ least. asked ≡ from_least least line.asked)

@@ -2,7 +2,7 @@
 
 ghost use Rattle.std.specs.Prelude.{IfOk};
 ghost use Rattle.prom_store.specs.Views.{view_of};
-ghost use Rattle.prom_head.specs.Asking.{IsAskedIn};
+ghost use Rattle.prom_head.specs.Asking.{GivesLeast, IsAskedIn};
 
 use crate::naming::name_of;
 use block_commands::carry_out_block;
@@ -12,6 +12,7 @@ use prom_files::clear_abandoned;
 use prom_line::{Asked, CommandLine, parse};
 use prom_store::{AnalyzeRequest, Fault, LineFault, Status, Store};
 use query_commands::{carry_out_analyze, carry_out_dump};
+use rescue_commands::{carry_out_blocks, carry_out_rescue};
 use server_blocks::min_valid_of;
 use std::alloc::Global;
 use std::random::RandomSource;
@@ -39,12 +40,34 @@ fn carried_out<R: AllocGlobal + Threads + Wait + Sync, S: Store, P: Progress + S
         }
         Asked::Dump(request) => carry_out_dump(rt, alloc, store, progress, request),
         Asked::OfBlocks(request) => carry_out_block(rt, alloc, store, progress, request),
+        Asked::Blocks(request) => carry_out_blocks(rt, alloc, store, progress, request),
+        Asked::Rescue(request) => carry_out_rescue(rt, alloc, store, progress, request),
         Asked::Append(request) => {
             clear_abandoned(alloc, store, request.dir);
             carry_out_append(rt, alloc, store, progress, request)
         }
         Asked::Checkpoint(request) => carry_out_checkpoint(alloc, store, request),
         Asked::Unpack(request) => carry_out_unpack(alloc, store, request),
+    }
+}
+
+// Returns the least valid time that the blocks of a data directory give, if a command line has one. Those beside a log give none if they cannot
+// be read: they are not asked for.
+fn least_of<S: Store>(
+    alloc: Global,
+    store: &S,
+    line: &CommandLine<'_>,
+) -> Result<Option<i64>, Fault>
+    ensures { IfOk result (GivesLeast (view_of (S.holds store.now)) line.now) }
+{
+    let Some(data) = line.min_valid_of else {
+        return Ok(None);
+    };
+    match min_valid_of(alloc, store, data) {
+        Ok(least) => Ok(Some(least)),
+        Err(Fault::OutOfMemory) => Err(Fault::OutOfMemory),
+        Err(_) if line.is_beside => Ok(None),
+        Err(fault) => Err(fault),
     }
 }
 
@@ -56,8 +79,8 @@ fn asked_in<'a, S: Store>(
 ) -> Result<Asked<'a>, Fault>
     ensures { IfOk result (IsAskedIn (view_of (S.holds store.now)) line.entry) }
 {
-    match line.min_valid_of {
-        Some(data) => Ok(line.asked.from_least(min_valid_of(alloc, store, data)?)),
+    match least_of(alloc, store, &line)? {
+        Some(least) => Ok(line.asked.from_least(least)),
         None => Ok(line.asked),
     }
 }

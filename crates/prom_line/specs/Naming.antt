@@ -4,13 +4,15 @@ use Rattle.std.specs.Borrow.{Bor}
 use Rattle.prom_store.specs.declared.requests.BlockRequest.{BlockRequest}
 use Rattle.prom_store.specs.declared.requests.BlockRequest.TheVariants.{Block, Cut, Ranges}
 use Rattle.prom_line.specs.declared.asked.Asked.{Asked}
-use Rattle.prom_line.specs.declared.asked.Asked.TheVariants.{Analyze, Append, Checkpoint, Dump, Inspect, OfBlocks, OfLog, Unpack}
+use Rattle.prom_line.specs.declared.asked.Asked.TheVariants.{Analyze, Append, Blocks, Checkpoint, Dump, Inspect, OfBlocks, OfLog, Rescue, Unpack}
 
--- a name is to be made for its block
+-- a name is to be made for its block, or for the first of its blocks
 abbrev pub lacks_name : Asked → Bool
 lacks_name (OfBlocks (Cut request)) = request.is_made
-lacks_name (OfBlocks (Ranges dir options)) = false
+lacks_name (OfBlocks (Ranges dir form options)) = false
 lacks_name (OfBlocks (Block path)) = false
+lacks_name (Blocks request) = request.is_made
+lacks_name (Rescue request) = request.is_made
 lacks_name (OfLog request) = false
 lacks_name (Inspect request) = false
 lacks_name (Analyze request) = false
@@ -21,12 +23,14 @@ lacks_name (Unpack request) = false
 
 abbrev pub named_block : Bor (List ℕ) → BlockRequest → BlockRequest
 named_block name (Cut request) = Cut (record request { ulid = name })
-named_block name (Ranges dir options) = Ranges dir options
+named_block name (Ranges dir form options) = Ranges dir form options
 named_block name (Block path) = Block path
 
--- the same, with this name for its block
+-- the same, with this name for its block, or for the first of its blocks
 abbrev pub named : Bor (List ℕ) → Asked → Asked
 named name (OfBlocks request) = OfBlocks (named_block name request)
+named name (Blocks request) = Blocks (record request { ulid = name })
+named name (Rescue request) = Rescue (record request { ulid = name })
 named name (OfLog request) = OfLog request
 named name (Inspect request) = Inspect request
 named name (Analyze request) = Analyze request

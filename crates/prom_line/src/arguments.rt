@@ -76,8 +76,16 @@ pub(crate) fn with_min_valid<'a>(
     command?.arg(min_valid)?.arg(min_valid_of(alloc)?)
 }
 
-/// Adds the options of replay to a command.
+/// Adds the options of the form in which a log is read, and of replay, to a command.
 pub(crate) fn replaying<'a>(
+    alloc: Global,
+    command: Result<Command<'a>, AllocError>,
+) -> Result<Command<'a>, AllocError> {
+    replaying_as_it_is(alloc, in_forms(alloc, command))
+}
+
+/// Adds the options of replay to a command.
+pub(crate) fn replaying_as_it_is<'a>(
     alloc: Global,
     command: Result<Command<'a>, AllocError>,
 ) -> Result<Command<'a>, AllocError> {
@@ -135,6 +143,12 @@ pub(crate) fn ulid<'a>(alloc: Global) -> Result<Arg<'a>, AllocError> {
         .required_unless_present("xor")
 }
 
+pub(crate) fn first_ulid<'a>(alloc: Global) -> Arg<'a> {
+    Arg::new(alloc, "ulid").long("ulid").value_name("U").help(
+        "The name of the first block, a ULID, from which the others are counted up; one is made if it is left out",
+    )
+}
+
 pub(crate) fn xor<'a>(alloc: Global) -> Arg<'a> {
     flag(alloc, "xor").help("Write XOR chunks, as a server does, so that it opens the block")
 }
@@ -147,12 +161,42 @@ pub(crate) fn out<'a>(alloc: Global) -> Arg<'a> {
         .required(true)
 }
 
+pub(crate) fn blocks_out<'a>(alloc: Global) -> Arg<'a> {
+    Arg::new(alloc, "out")
+        .long("out")
+        .value_name("OUT")
+        .help("The directory in which the folders of the blocks are made")
+        .required(true)
+}
+
 pub(crate) fn new_log<'a>(alloc: Global) -> Arg<'a> {
     Arg::new(alloc, "out")
         .long("out")
         .value_name("OUT")
         .help("The directory that is made for the log")
         .required(true)
+}
+
+// Returns the option that reads compressed records too.
+fn unpacked<'a>(alloc: Global) -> Arg<'a> {
+    flag(alloc, "unpack").short('z').help(
+        "Read compressed records too: the log that `unpack` would write",
+    )
+}
+
+// Returns the option that reads what is behind damage.
+fn all_readable<'a>(alloc: Global) -> Arg<'a> {
+    flag(alloc, "past-damage").help(
+        "Read all that can be read, compressed or not, also what is behind damage",
+    )
+}
+
+/// Adds the options of the form in which a log is read to a command.
+pub(crate) fn in_forms<'a>(
+    alloc: Global,
+    command: Result<Command<'a>, AllocError>,
+) -> Result<Command<'a>, AllocError> {
+    command?.arg(unpacked(alloc))?.arg(all_readable(alloc))
 }
 
 pub(crate) fn through_damage<'a>(alloc: Global) -> Arg<'a> {

@@ -45,7 +45,7 @@ fn replay<'a>(alloc: Global) -> Result<Command<'a>, AllocError> {
 
 fn records<'a>(alloc: Global) -> Result<Command<'a>, AllocError> {
     let about = "Lists the records of the log";
-    on_log(alloc, "records", about, texts::RECORDS)
+    in_forms(alloc, on_log(alloc, "records", about, texts::RECORDS))
 }
 
 fn inspect<'a>(alloc: Global) -> Result<Command<'a>, AllocError> {
@@ -85,6 +85,20 @@ fn cut<'a>(alloc: Global) -> Result<Command<'a>, AllocError> {
     replaying(alloc, also(also(command, out(alloc)), xor(alloc)))
 }
 
+fn blocks<'a>(alloc: Global) -> Result<Command<'a>, AllocError> {
+    let about = "Writes a block for each hour of the log, for a server to open";
+    let command = on_log(alloc, "blocks", about, texts::BLOCKS);
+    let command = also(also(command, blocks_out(alloc)), first_ulid(alloc));
+    replaying(alloc, command)
+}
+
+fn rescue<'a>(alloc: Global) -> Result<Command<'a>, AllocError> {
+    let about = "Writes blocks of all that can be read of a log, for a server that does not start";
+    let command = on_log(alloc, "rescue", about, texts::RESCUE);
+    let command = also(also(command, blocks_out(alloc)), first_ulid(alloc));
+    replaying_as_it_is(alloc, also(command, json(alloc)))
+}
+
 fn block<'a>(alloc: Global) -> Result<Command<'a>, AllocError> {
     named(alloc, "block", "Says what a block holds", texts::BLOCK).arg(path(alloc))
 }
@@ -93,12 +107,12 @@ fn append<'a>(alloc: Global) -> Result<Command<'a>, AllocError> {
     let about = "Appends rows to the log, in a new segment";
     let command = on_log(alloc, "append", about, texts::APPEND);
     let command = also(also(command, rows(alloc)), floats(alloc));
-    replaying(alloc, command)
+    replaying_as_it_is(alloc, command)
 }
 
 fn checkpoint<'a>(alloc: Global) -> Result<Command<'a>, AllocError> {
     let about = "Makes a checkpoint of the log";
-    let command = on_log(alloc, "checkpoint", about, texts::CHECKPOINT);
+    let command = in_forms(alloc, on_log(alloc, "checkpoint", about, texts::CHECKPOINT));
     let command = with_min_valid(alloc, command, min_valid(alloc).required(true));
     also(command, keep_skipped(alloc))
 }
@@ -127,6 +141,7 @@ pub(crate) fn program<'a>(alloc: Global) -> Result<Command<'a>, AllocError> {
         .version(VERSION)
         .subcommand_required(true);
     let command = with(command, inspect(alloc))?;
+    let command = with(command, rescue(alloc))?;
     let command = with(command, unpack(alloc))?;
     let command = with(command, replay(alloc))?;
     let command = with(command, records(alloc))?;
@@ -135,6 +150,7 @@ pub(crate) fn program<'a>(alloc: Global) -> Result<Command<'a>, AllocError> {
     let command = with(command, dump(alloc))?;
     let command = with(command, ranges(alloc))?;
     let command = with(command, cut(alloc))?;
+    let command = with(command, blocks(alloc))?;
     let command = with(command, block(alloc))?;
     let command = with(command, append(alloc))?;
     with(command, checkpoint(alloc))

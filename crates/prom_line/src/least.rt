@@ -1,34 +1,45 @@
 //! The least valid time of what is asked for.
 
 ghost use Rattle.std.specs.Prelude.{◌≡◌};
-ghost use Rattle.prom_line.specs.Least.{from_least, least_blocks, least_log};
+ghost use Rattle.prom_line.specs.Least.{from_least, least_blocks, least_log, least_options};
 
 use crate::asked::Asked;
 use head_replay::Options;
 use prom_store::{
-    AnalyzeRequest, AppendRequest, BlockRequest, CheckpointRequest, CutRequest, DumpRequest,
-    InspectRequest, Request,
+    AnalyzeRequest, AppendRequest, BlockRequest, BlocksRequest, CheckpointRequest, CutRequest,
+    DumpRequest, InspectRequest, Request, RescueRequest,
 };
+
+// Returns the options with this least valid time.
+fn options_from(options: Options, min_valid: i64) -> Options
+    ensures { result ≡ least_options min_valid options }
+{
+    Options {
+        min_valid,
+        ..options
+    }
+}
 
 // Returns the request with this least valid time. One that replays nothing is returned unchanged.
 fn log_from(request: Request<'_>, min_valid: i64) -> Request<'_>
     ensures { result ≡ least_log min_valid request.entry }
 {
     match request {
-        Request::Replay { dir, options } => Request::Replay {
+        Request::Replay { dir, form, options } => Request::Replay {
             dir,
-            options: Options {
-                min_valid,
-                ..options
-            },
+            form,
+            options: options_from(options, min_valid),
         },
-        Request::Series { dir, pair, options } => Request::Series {
+        Request::Series {
             dir,
+            form,
             pair,
-            options: Options {
-                min_valid,
-                ..options
-            },
+            options,
+        } => Request::Series {
+            dir,
+            form,
+            pair,
+            options: options_from(options, min_valid),
         },
         Request::Records { .. } => request,
     }
@@ -39,18 +50,13 @@ fn blocks_from(request: BlockRequest<'_>, min_valid: i64) -> BlockRequest<'_>
     ensures { result ≡ least_blocks min_valid request.entry }
 {
     match request {
-        BlockRequest::Ranges { dir, options } => BlockRequest::Ranges {
+        BlockRequest::Ranges { dir, form, options } => BlockRequest::Ranges {
             dir,
-            options: Options {
-                min_valid,
-                ..options
-            },
+            form,
+            options: options_from(options, min_valid),
         },
         BlockRequest::Cut(request) => BlockRequest::Cut(CutRequest {
-            options: Options {
-                min_valid,
-                ..request.options
-            },
+            options: options_from(request.options, min_valid),
             ..request
         }),
         BlockRequest::Block { .. } => request,
@@ -66,24 +72,23 @@ impl<'a> Asked<'a> {
             Asked::OfLog(request) => Asked::OfLog(log_from(request, min_valid)),
             Asked::OfBlocks(request) => Asked::OfBlocks(blocks_from(request, min_valid)),
             Asked::Analyze(request) => Asked::Analyze(AnalyzeRequest {
-                options: Options {
-                    min_valid,
-                    ..request.options
-                },
+                options: options_from(request.options, min_valid),
                 ..request
             }),
             Asked::Dump(request) => Asked::Dump(DumpRequest {
-                options: Options {
-                    min_valid,
-                    ..request.options
-                },
+                options: options_from(request.options, min_valid),
+                ..request
+            }),
+            Asked::Blocks(request) => Asked::Blocks(BlocksRequest {
+                options: options_from(request.options, min_valid),
+                ..request
+            }),
+            Asked::Rescue(request) => Asked::Rescue(RescueRequest {
+                options: options_from(request.options, min_valid),
                 ..request
             }),
             Asked::Append(request) => Asked::Append(AppendRequest {
-                options: Options {
-                    min_valid,
-                    ..request.options
-                },
+                options: options_from(request.options, min_valid),
                 ..request
             }),
             Asked::Checkpoint(request) => Asked::Checkpoint(CheckpointRequest {

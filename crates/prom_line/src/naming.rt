@@ -1,23 +1,25 @@
-//! The name of the block that is asked for.
+//! The name of the block that is asked for, or of the first of the blocks.
 
 ghost use Rattle.std.specs.Prelude.{◌≡◌};
 ghost use Rattle.prom_line.specs.Naming.{lacks_name, named};
 
 use crate::asked::{Asked, CommandLine};
-use prom_store::{BlockRequest, CutRequest};
+use prom_store::{BlockRequest, BlocksRequest, CutRequest, RescueRequest};
 
 impl<'a> Asked<'a> {
-    /// Returns whether a name is to be made for its block.
+    /// Returns whether a name is to be made for its block, or for the first of its blocks.
     pub fn lacks_name(&self) -> bool
         ensures { result ≡ lacks_name self.now }
     {
         match self {
             Asked::OfBlocks(BlockRequest::Cut(request)) => request.is_made,
+            Asked::Blocks(request) => request.is_made,
+            Asked::Rescue(request) => request.is_made,
             _ => false,
         }
     }
 
-    /// Returns the same with this name for its block. What makes no block is returned unchanged.
+    /// Returns the same with this name for its block, or for the first of its blocks. What makes no block is returned unchanged.
     pub fn named(self, name: &'a str) -> Asked<'a>
         ensures { result ≡ named name.entry self.entry }
     {
@@ -29,6 +31,14 @@ impl<'a> Asked<'a> {
                 };
                 Asked::OfBlocks(BlockRequest::Cut(request))
             }
+            Asked::Blocks(request) => Asked::Blocks(BlocksRequest {
+                ulid: name,
+                ..request
+            }),
+            Asked::Rescue(request) => Asked::Rescue(RescueRequest {
+                ulid: name,
+                ..request
+            }),
             other => other,
         }
     }

@@ -135,6 +135,44 @@ Exit status:
   3  a file cannot be read or written, or the hour cannot be cut
   4  out of memory, or a thread could not start";
 
+pub(crate) const BLOCKS: &str = "\
+Writes a folder into OUT for each hour that has a sample, also the last, unfinished one, and
+nothing else: a block that a server opens. OUT is a directory that is there. A block that stands in
+OUT already, byte for byte, is told and left, so a run that was cut short is run again. A crash
+leaves no half block: what was not finished stays as a folder that ends in .tmp, and you may
+remove it.
+
+Examples:
+  prom_head blocks wal --out blocks
+  prom_head blocks /var/lib/prometheus/metrics2/wal -z --out blocks
+
+Exit status:
+  0  all blocks are on the device
+  1  the log is damaged: nothing was written, or, with --past-damage, all that can be read
+  2  the command line is wrong
+  3  a file cannot be read or written
+  4  out of memory, or a thread could not start";
+
+pub(crate) const RESCUE: &str = "\
+Reads all that can be read of the log, compressed or not, also behind damage, and writes it as
+blocks into OUT, as `blocks` does. Says what was read of each file, and what is lost. The log and
+its server's data stay as they are. Samples that the server has in blocks by now are left out: the
+least valid time is that of the blocks beside DIR, unless an option gives another.
+
+Stop the server first. Then rescue, move the blocks into its data directory, move the log away, and
+start the server.
+
+Example:
+  mkdir blocks
+  prom_head rescue /var/lib/prometheus/metrics2/wal --out blocks
+
+Exit status:
+  0  all blocks are on the device, and nothing is lost
+  1  all blocks are on the device, and parts of the log are lost
+  2  the command line is wrong
+  3  a file cannot be read or written
+  4  out of memory, or a thread could not start";
+
 pub(crate) const BLOCK: &str = "\
 Writes nothing.
 
@@ -185,4 +223,4 @@ Exit status:
 pub(crate) const PROGRAM: &str = "\
 DIR is the directory `wal` of a server, under its data directory, or a copy of it. `prom_head
 help COMMAND` says what a command writes, with an example and its exit statuses. If the server
-compresses its log, as it does by default, begin with `unpack`.";
+compresses its log, as it does by default, give the commands -z. If it does not start, `rescue`.";
