@@ -12,7 +12,7 @@ use Rattle.prom_files.specs.Crashes.{IsCrashSafe}
 use Rattle.prom_files.specs.Disk.{File, Standing}
 use Rattle.prom_files.specs.Folders.{FileAt}
 use Rattle.prom_files.specs.Shown.{shown}
-use Rattle.prom_commands.specs.Directory.{IsLogIn}
+use Rattle.log_source.specs.Directory.{IsLogIn}
 use Rattle.live_commands.specs.Crashes.{IfFree, IfStood, OutlastsAppend, OutlastsCheckpoint, ReplaysAlike, ReplaysOldOrRows, ReplaysRows}
 use Rattle.block_commands.specs.Folders.{Cuts, LeavesBlock, LeavesOldOrBlock}
 use Rattle.unpack_commands.specs.Folders.{Ending, LeavesLog, LeavesOldBesideLog, LeavesOldOrLog, Unpacks}
@@ -80,9 +80,9 @@ module _ (old new : Listing) (W : Type 0) (none : old.calls.items ≡ []) (first
 
   pub cut_lasts : (request : CutRequest) → Cuts Did Holds old request W new → CutOutlasts request files calls later W
   cut_lasts request (inl (same, failed)) = inl (makes_none same, failed)
-  cut_lasts request (inr (log, block, at, is, inl (same, failed))) = inl (makes_none same, failed)
-  cut_lasts request (inr (log, block, at, is, inr (free, safe))) =
-      inr (log, block, at, is, free, outlasts old new (LeavesOldOrBlock request.out.now request.ulid.now block) (LeavesBlock request.out.now request.ulid.now block) W none first safe)
+  cut_lasts request (inr (log, own, block, at, undamaged, is, inl (same, failed))) = inl (makes_none same, failed)
+  cut_lasts request (inr (log, own, block, at, undamaged, is, inr (free, safe))) =
+      inr (log, own, block, at, undamaged, is, free, outlasts old new (LeavesOldOrBlock request.out.now request.ulid.now block) (LeavesBlock request.out.now request.ulid.now block) W none first safe)
 
   pub unpack_lasts : (request : UnpackRequest) (end : Ending) → Unpacks Did Holds old request end new → UnpackOutlasts request files calls later end
   unpack_lasts request end (inl (same, failed, tells)) =

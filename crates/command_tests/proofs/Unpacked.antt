@@ -10,8 +10,9 @@ use Rattle.prom_store.specs.Calls.{Call}
 use Rattle.prom_store.specs.Found.{Found}
 use Rattle.prom_store.specs.Views.{View}
 use Rattle.prom_files.specs.Folders.{FileAt}
-use Rattle.unpack_commands.specs.declared.reading.FileDamage.{FileDamage}
-use Rattle.unpack_commands.specs.Logs.{AreUnpackedBehind, AreUnpackedIn, IsUnpackedCheckpoint, IsUnpackedFolder, IsUnpackedIn, IsUnpackedLogIn, IsUnpackedPlan, seen_since}
+use Rattle.log_source.specs.declared.unpacking.FileDamage.{FileDamage}
+use Rattle.log_source.specs.Unpacked.{AreUnpackedBehind, AreUnpackedIn, IsUnpackedCheckpoint, IsUnpackedFolder, IsUnpackedIn, IsUnpackedLogIn, IsUnpackedPlan}
+use Rattle.unpack_commands.specs.Since.{seen_since}
 use Rattle.command_tests.specs.Listings.{Did, HoldsAt, Relists, file_of, standing_in}
 use Rattle.command_tests.specs.Outlasts.{seen_from}
 use Rattle.command_tests.specs.declared.listing.Listing.{Listing}

@@ -11,6 +11,7 @@ use Rattle.block_read.specs.declared.block.Block.{Block}
 use Rattle.block_cut.specs.Logs.{IsBlockOfLog}
 use Rattle.prom_store.specs.Calls.{Call}
 use Rattle.prom_store.specs.Views.{View}
+use Rattle.prom_store.specs.declared.damage.Flaw.{Flaw}
 use Rattle.prom_store.specs.declared.requests.AppendRequest.{AppendRequest}
 use Rattle.prom_store.specs.declared.requests.CheckpointRequest.{CheckpointRequest}
 use Rattle.prom_store.specs.declared.requests.CutRequest.{CutRequest}
@@ -20,17 +21,19 @@ use Rattle.prom_files.specs.Disk.{File, MayLeave, Standing, after_all, disk_of}
 use Rattle.prom_files.specs.Folders.{FileAt}
 use Rattle.prom_files.specs.Shown.{AreNamesIn, IsTreeIn, shown}
 use Rattle.prom_files.specs.Targets.{unfinished_of}
-use Rattle.prom_commands.specs.Directory.{IsLogIn}
+use Rattle.log_source.specs.Directory.{IsLogIn}
+use Rattle.log_source.specs.Sources.{IsSourceIn}
+use Rattle.prom_commands.specs.Answers.{IsNoDamage}
 use Rattle.live_commands.specs.Checkpoints.{IsFreeIn, checkpoint_path}
 use Rattle.live_commands.specs.Crashes.{ReplaysAlike, ReplaysOldOrRows, ReplaysRows}
 use Rattle.live_commands.specs.RowTexts.{AreRowsAt}
 use Rattle.block_commands.specs.Folders.{IsFreeIn as IsFreeForBlock, LeavesBlock, LeavesOldOrBlock}
-use Rattle.unpack_commands.specs.declared.reading.FileDamage.{FileDamage}
+use Rattle.log_source.specs.declared.unpacking.FileDamage.{FileDamage}
 use Rattle.unpack_commands.specs.Folders.{Ending, IsOut, LeavesLog, LeavesOldBesideLog, LeavesOldOrLog}
-use Rattle.unpack_commands.specs.declared.lost.Lost.{Lost}
-use Rattle.unpack_commands.specs.Rescued.{IsRescuedLogIn}
+use Rattle.log_source.specs.declared.lost.Lost.{Lost}
+use Rattle.log_source.specs.Rescued.{IsRescuedLogIn}
 use Rattle.unpack_commands.specs.Rescues.{RescueEnding}
-use Rattle.unpack_commands.specs.Logs.{IsUnpackedLogIn}
+use Rattle.log_source.specs.Unpacked.{IsUnpackedLogIn}
 use Rattle.command_tests.specs.Listings.{HoldsAt, Relists, standing_in}
 
 -- P of what a crash may leave behind these calls, where this stood before, and of what its paths lead to
@@ -85,7 +88,7 @@ CheckpointOutlasts request files calls later WentWell =
 abbrev pub CutOutlasts : CutRequest → List FileAt → List Call → List FileAt → Type 0 → Type 0
 CutOutlasts request files calls later WentWell =
     (MakesNone files calls later × (WentWell → ⊥))
-    ⊎ ((log : Files) × (block : Block) × IsLogIn (shown (standing_in files)) request.dir.now log × IsBlockOfLog request.encoding log request.options.min_valid request.hour request.ulid.now block
+    ⊎ ((log : Files) × (own : Option Flaw) × (block : Block) × IsSourceIn request.form (shown (standing_in files)) request.dir.now log own × IsNoDamage own × IsBlockOfLog request.encoding log request.options.min_valid request.hour request.ulid.now block
     × IsFreeForBlock (shown (standing_in files)) request.out.now request.ulid.now
     × Outlasts files calls later (LeavesOldOrBlock request.out.now request.ulid.now block) (LeavesBlock request.out.now request.ulid.now block) WentWell)
 

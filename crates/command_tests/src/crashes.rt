@@ -11,7 +11,7 @@ use block_commands::BlockRequest;
 use head_replay::{NoGate, Options};
 use prom_commands::Request;
 use prom_line::Asked;
-use prom_store::{Status, Store, StoreFault};
+use prom_store::{LogForm, Status, Store, StoreFault};
 use std::alloc::{AllocError, Global};
 use std::fmt::Debug;
 use std::process::Abort;
@@ -88,6 +88,7 @@ pub fn counts(alloc: Global, samples: u64) -> Result<String, AllocError> {
 /// Replays the log.
 pub const REPLAY: Asked<'static> = Asked::OfLog(Request::Replay {
     dir: "log",
+    form: LogForm::Plain,
     options: Options {
         workers: 4,
         round_pages: 256,
@@ -173,6 +174,7 @@ fn crash_at_each_call_of_cut(rt: HostRuntime) -> Result<(), StoreFault> {
 
 const REPLAY_FROM_3000: Asked<'static> = Asked::OfLog(Request::Replay {
     dir: "log",
+    form: LogForm::Plain,
     options: Options {
         workers: 4,
         round_pages: 256,

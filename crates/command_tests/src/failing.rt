@@ -11,7 +11,7 @@ use block_commands::BlockRequest;
 use head_replay::NoGate;
 use prom_commands::Request;
 use prom_line::Asked;
-use prom_store::{InspectRequest, StoreFault};
+use prom_store::{InspectRequest, LogForm, StoreFault};
 use std::alloc::AllocError;
 use std::process::Abort;
 use std::sync::Wait;
@@ -95,7 +95,10 @@ const RECORDS: Case = Case {
         ("log/checkpoint.00000004/", b""),
         ("log/checkpoint.00000004/00000000", RECORD_OF_NO_BYTES),
     ],
-    asked: Asked::OfLog(Request::Records { dir: "log" }),
+    asked: Asked::OfLog(Request::Records {
+        dir: "log",
+        form: LogForm::Plain,
+    }),
     dir: "log/checkpoint.00000004",
 };
 

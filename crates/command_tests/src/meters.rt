@@ -9,7 +9,7 @@ use live_commands::AppendRequest;
 use prom_commands::{Meter, Progress, Request, carry_out};
 use prom_figures::Extent;
 use prom_line::Asked;
-use prom_store::{AnalyzeRequest, DumpRequest, Encoding, StoreFault};
+use prom_store::{AnalyzeRequest, DumpRequest, Encoding, LogForm, StoreFault};
 use std::alloc::Global;
 use std::cell::{Cell, RefCell};
 use std::fmt::{Debug, Display};
@@ -183,6 +183,7 @@ impl Eprint for Closed {
 
 const REPLAY_BY_PAGES: Request<'static> = Request::Replay {
     dir: "log",
+    form: LogForm::Plain,
     options: Options {
         workers: 2,
         round_pages: 1,
@@ -271,21 +272,25 @@ const BY_THREE: Options = Options {
 const REPLAYS: &[Asked<'static>] = &[
     Asked::OfLog(Request::Replay {
         dir: "log",
+        form: LogForm::Plain,
         options: BY_THREE,
     }),
     Asked::OfLog(Request::Series {
         dir: "log",
+        form: LogForm::Plain,
         pair: None,
         options: BY_THREE,
     }),
     Asked::Analyze(AnalyzeRequest {
         dir: "log",
+        form: LogForm::Plain,
         most: 10,
         bars: false,
         options: BY_THREE,
     }),
     Asked::Dump(DumpRequest {
         dir: "log",
+        form: LogForm::Plain,
         pair: None,
         from: i64::MIN,
         to: i64::MAX,
@@ -295,10 +300,12 @@ const REPLAYS: &[Asked<'static>] = &[
     }),
     Asked::OfBlocks(BlockRequest::Ranges {
         dir: "log",
+        form: LogForm::Plain,
         options: BY_THREE,
     }),
     Asked::OfBlocks(BlockRequest::Cut(CutRequest {
         dir: "log",
+        form: LogForm::Plain,
         hour: 0,
         ulid: ULID,
         is_made: false,

@@ -7,7 +7,7 @@ use head_replay::Options;
 use live_commands::{AppendRequest, CheckpointRequest};
 use prom_commands::Request;
 use prom_line::{Asked, CommandLine, parse};
-use prom_store::{AnalyzeRequest, DumpRequest, Encoding, Fault, UnpackRequest};
+use prom_store::{AnalyzeRequest, DumpRequest, Encoding, Fault, LogForm, UnpackRequest};
 use std::alloc::{AllocError, Global};
 use std::process::Abort;
 
@@ -29,6 +29,7 @@ const SEVEN: Options = Options {
 fn replay(options: Options) -> Asked<'static> {
     Asked::OfLog(Request::Replay {
         dir: "log",
+        form: LogForm::Plain,
         options,
     })
 }
@@ -51,6 +52,7 @@ fn assert_line<R: Abort + AllocGlobal>(
     let wanted = CommandLine {
         asked,
         min_valid_of,
+        is_beside: false,
     };
     same(rt, line, parse(rt.alloc(), &words).ok(), Some(wanted));
     Ok(())
@@ -86,6 +88,7 @@ const OF_EACH: &[(&str, Asked<'static>)] = &[
         "replay log",
         Asked::OfLog(Request::Replay {
             dir: "log",
+            form: LogForm::Plain,
             options: SEVEN,
         }),
     ),
@@ -93,6 +96,7 @@ const OF_EACH: &[(&str, Asked<'static>)] = &[
         "series log",
         Asked::OfLog(Request::Series {
             dir: "log",
+            form: LogForm::Plain,
             pair: None,
             options: SEVEN,
         }),
@@ -101,6 +105,7 @@ const OF_EACH: &[(&str, Asked<'static>)] = &[
         "ranges log",
         Asked::OfBlocks(BlockRequest::Ranges {
             dir: "log",
+            form: LogForm::Plain,
             options: SEVEN,
         }),
     ),
@@ -108,6 +113,7 @@ const OF_EACH: &[(&str, Asked<'static>)] = &[
         "cut log --hour -1 --ulid=01ARZ3NDEKTSV4RRFFQ69G5FAV --out=out",
         Asked::OfBlocks(BlockRequest::Cut(CutRequest {
             dir: "log",
+            form: LogForm::Plain,
             hour: -1,
             ulid: "01ARZ3NDEKTSV4RRFFQ69G5FAV",
             is_made: false,
@@ -120,6 +126,7 @@ const OF_EACH: &[(&str, Asked<'static>)] = &[
         "cut log --xor --hour 2 --ulid=01ARZ3NDEKTSV4RRFFQ69G5FAV --out=out",
         Asked::OfBlocks(BlockRequest::Cut(CutRequest {
             dir: "log",
+            form: LogForm::Plain,
             hour: 2,
             ulid: "01ARZ3NDEKTSV4RRFFQ69G5FAV",
             is_made: false,
@@ -132,6 +139,7 @@ const OF_EACH: &[(&str, Asked<'static>)] = &[
         "cut log --hour 2 --out=out --xor",
         Asked::OfBlocks(BlockRequest::Cut(CutRequest {
             dir: "log",
+            form: LogForm::Plain,
             hour: 2,
             ulid: "",
             is_made: true,
@@ -144,6 +152,7 @@ const OF_EACH: &[(&str, Asked<'static>)] = &[
         "analyze log --most 3",
         Asked::Analyze(AnalyzeRequest {
             dir: "log",
+            form: LogForm::Plain,
             most: 3,
             bars: false,
             options: SEVEN,
@@ -153,6 +162,7 @@ const OF_EACH: &[(&str, Asked<'static>)] = &[
         "dump log --from=-7 --to 8 --floats",
         Asked::Dump(DumpRequest {
             dir: "log",
+            form: LogForm::Plain,
             pair: None,
             from: -7,
             to: 8,
@@ -188,12 +198,14 @@ fn options_of_each_command(rt: HostRuntime) -> Result<(), AllocError> {
 
 const CHECKPOINT: Asked<'static> = Asked::Checkpoint(CheckpointRequest {
     dir: "log",
+    form: LogForm::Plain,
     min_valid: -5,
     keep_skipped: false,
 });
 
 const WHOLE_CHECKPOINT: Asked<'static> = Asked::Checkpoint(CheckpointRequest {
     dir: "log",
+    form: LogForm::Plain,
     min_valid: -5,
     keep_skipped: true,
 });

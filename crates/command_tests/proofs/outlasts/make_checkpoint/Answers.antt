@@ -8,10 +8,10 @@ use Rattle.command_tests.proofs.Commands.{checkpoint_lasts, left_so}
 use Rattle.command_tests.proofs.outlasts.make_checkpoint.Goals as goal
 
 pub returns : goal.returns
-returns c =
+returns c = λ plain.
     let old = c.listing_of-store.result in
     let new = c.carry_out_checkpoint-answer.new.store in
-    let lasts = checkpoint_lasts old new (c.carry_out_checkpoint-answer.result.status ≡ Done) c.listing_of-store.ensures.calls c.listing_of-store.ensures.renamed c.args.request c.carry_out_checkpoint-answer.ensures.replay in
+    let lasts = checkpoint_lasts old new (c.carry_out_checkpoint-answer.result.status ≡ Done) c.listing_of-store.ensures.calls c.listing_of-store.ensures.renamed c.args.request (c.carry_out_checkpoint-answer.ensures.replay plain) in
     left_so (λ files calls later status. CheckpointOutlasts c.args.request files calls later (status ≡ Done)) _ _ _ _ _ _ _ _
     (ap (λ files. map file_of files.items) c.listing_of-store.ensures.files) (sym (ap (λ calls. calls_of calls.items) c.left_by.ensures.calls)) (sym (ap (λ files. map file_of files.items) c.left_by.ensures.files))
     (sym (ap (λ answer. answer.status) c.left_by.ensures.answer)) lasts
