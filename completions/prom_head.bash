@@ -2,23 +2,25 @@
 _prom_head() {
     local word=${COMP_WORDS[COMP_CWORD]} options=
     if [ "$COMP_CWORD" -eq 1 ]; then
-        mapfile -t COMPREPLY < <(compgen -W 'inspect unpack replay records series analyze dump ranges cut block append checkpoint help --help --version' -- "$word")
+        mapfile -t COMPREPLY < <(compgen -W 'inspect rescue unpack replay records series analyze dump ranges cut blocks block append checkpoint help --help --version' -- "$word")
         return
     fi
     case ${COMP_WORDS[1]} in
         inspect) options='-h --json --min-valid --min-valid-of --help' ;;
+        rescue) options='-h --out --ulid --json --workers --round-pages --min-valid --min-valid-of --help' ;;
         unpack) options='-h --out --through-damage --past-damage --help' ;;
-        replay) options='-h --workers --round-pages --min-valid --min-valid-of --help' ;;
-        records) options='-h --help' ;;
-        series) options='-h --pair --workers --round-pages --min-valid --min-valid-of --help' ;;
-        analyze) options='-h --most --workers --round-pages --min-valid --min-valid-of --help' ;;
-        dump) options='-h --pair --from --to --floats --hidden --workers --round-pages --min-valid --min-valid-of --help' ;;
-        ranges) options='-h --workers --round-pages --min-valid --min-valid-of --help' ;;
-        cut) options='-h --hour --ulid --out --xor --workers --round-pages --min-valid --min-valid-of --help' ;;
+        replay) options='-z -h --unpack --past-damage --workers --round-pages --min-valid --min-valid-of --help' ;;
+        records) options='-z -h --unpack --past-damage --help' ;;
+        series) options='-z -h --pair --unpack --past-damage --workers --round-pages --min-valid --min-valid-of --help' ;;
+        analyze) options='-z -h --most --unpack --past-damage --workers --round-pages --min-valid --min-valid-of --help' ;;
+        dump) options='-z -h --pair --from --to --floats --hidden --unpack --past-damage --workers --round-pages --min-valid --min-valid-of --help' ;;
+        ranges) options='-z -h --unpack --past-damage --workers --round-pages --min-valid --min-valid-of --help' ;;
+        cut) options='-z -h --hour --ulid --out --xor --unpack --past-damage --workers --round-pages --min-valid --min-valid-of --help' ;;
+        blocks) options='-z -h --out --ulid --unpack --past-damage --workers --round-pages --min-valid --min-valid-of --help' ;;
         block) options='-h --help' ;;
         append) options='-h --rows --floats --workers --round-pages --min-valid --min-valid-of --help' ;;
-        checkpoint) options='-h --min-valid --min-valid-of --keep-skipped --help' ;;
-        help) options='inspect unpack replay records series analyze dump ranges cut block append checkpoint' ;;
+        checkpoint) options='-z -h --unpack --past-damage --min-valid --min-valid-of --keep-skipped --help' ;;
+        help) options='inspect rescue unpack replay records series analyze dump ranges cut blocks block append checkpoint' ;;
     esac
     if [[ $word == -* || ${COMP_WORDS[1]} == help ]]; then
         mapfile -t COMPREPLY < <(compgen -W "$options" -- "$word")
