@@ -240,9 +240,14 @@ fn requested<'a>(matches: &ArgMatches<'a>) -> Option<Asked<'a>> {
     of_others(matches)
 }
 
-// Returns the directory that a log is in: that of a server's data, if it is a server's log.
+// Returns the directory that a log is in: that of a server's data, if it is a server's log. Where the path ends in `..` it is not told.
 fn beside(dir: &str) -> Option<&str> {
-    let parent = Path::new(dir).parent()?.as_str();
+    if dir == "." {
+        return Some("..");
+    }
+    let path = Path::new(dir);
+    path.file_name()?;
+    let parent = path.parent()?.as_str();
     // a name alone is in the directory of the program
     Some(if parent.is_empty() { "." } else { parent })
 }

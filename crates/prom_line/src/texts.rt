@@ -1,7 +1,8 @@
 //! What `--help` says behind a command's options: what it writes, an example, and its exit statuses.
 
 pub(crate) const REPLAY: &str = "\
-Writes nothing. The last line is `damage none`, or says where the log is damaged and how.
+Writes nothing. The last line is `damage none`, or says where the log is damaged and how, or, with
+--past-damage, how many parts of it are lost.
 
 Example:
   prom_head replay /var/lib/prometheus/metrics2/wal
@@ -14,7 +15,8 @@ Exit status:
   4  out of memory, or a thread could not start";
 
 pub(crate) const RECORDS: &str = "\
-Writes nothing. The last line is `damage none`, or says where the log is damaged and how.
+Writes nothing. The last line is `damage none`, or says where the log is damaged and how, or, with
+--past-damage, how many parts of it are lost.
 
 Example:
   prom_head records /var/lib/prometheus/metrics2/wal | tail -1
@@ -130,7 +132,7 @@ Example:
 
 Exit status:
   0  the block is on the device
-  1  the log is damaged: nothing was written
+  1  the log is damaged: nothing was written, or, with --past-damage, all that can be read
   2  the command line is wrong
   3  a file cannot be read or written, or the hour cannot be cut
   4  out of memory, or a thread could not start";
@@ -215,7 +217,7 @@ Example:
 
 Exit status:
   0  the checkpoint is on the device
-  1  the log is damaged: nothing was written
+  1  the log is damaged: nothing was written, or, with --past-damage, all that can be read
   2  the command line is wrong
   3  a file cannot be read or written, or there is no log
   4  out of memory";
