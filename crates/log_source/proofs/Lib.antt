@@ -1,6 +1,7 @@
 pub mod Appended
 pub mod Counted
 pub mod Events
+pub mod LinesOfLost
 pub mod Readable
 pub mod Readings
 pub mod Results

@@ -57,8 +57,8 @@ fn lost_of_file(file: &FileRead) -> u64
     file.lost.len() as u64
 }
 
-// Returns how many parts of files are lost.
-fn lost_count(files: &[FileRead]) -> Result<u64, AllocError>
+/// Returns how many parts of files are lost.
+pub fn lost_count(files: &[FileRead]) -> Result<u64, AllocError>
     ensures { IfOk result (λ count. count ≡ length (lost_in files.now)) }
 {
     let mut count: u64 = 0;
@@ -69,8 +69,8 @@ fn lost_count(files: &[FileRead]) -> Result<u64, AllocError>
     Ok(count)
 }
 
-/// Returns what is wrong with a log of whose files this was read.
-pub(crate) fn flaw_of_reads(files: &[FileRead]) -> Result<Option<Flaw>, AllocError>
+/// Returns what is wrong with a log of whose files this was read: how many parts are lost, if any is.
+pub fn flaw_of_reads(files: &[FileRead]) -> Result<Option<Flaw>, AllocError>
     ensures { IfOk result (λ flaw. flaw ≡ flaw_of_lost (lost_in files.now)) }
 {
     let count = lost_count(files)?;

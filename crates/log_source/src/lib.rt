@@ -8,6 +8,7 @@
 mod directory;
 mod flaws;
 mod lost;
+mod lost_lines;
 mod planning;
 mod rescued_log;
 mod rescuing;
@@ -17,7 +18,9 @@ mod unpacked_log;
 mod unpacking;
 
 pub use directory::{names_in, read_in, read_log, read_paths, read_planned_file};
+pub use flaws::{flaw_of_reads, lost_count};
 pub use lost::{Lost, LostPart};
+pub use lost_lines::push_lost;
 pub use planning::{plan_checkpoint, plan_log};
 pub use rescued_log::read_rescued;
 pub use rescuing::{RescuedText, rescue_text};

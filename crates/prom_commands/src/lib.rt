@@ -10,7 +10,7 @@ mod report;
 mod spelling;
 
 pub use commands::{Answer, carry_out};
-pub use heads::{check_undamaged, undamaged_head};
+pub use heads::{undamaged_head, undamaged_source};
 pub use meter::Meter;
 pub use progress::{Progress, extent_of};
 pub use prom_store::Request;

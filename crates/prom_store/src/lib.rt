@@ -26,5 +26,6 @@ pub use requests::{
     DumpRequest, InspectRequest, LogForm, Request, RescueRequest, UnpackRequest,
 };
 pub use several::{ReadFile, read_several};
+pub use shown::ShownPath;
 pub use store::{PartRead, Store, StoreFault, Unread};
 pub use whole::{read_whole, write_whole};

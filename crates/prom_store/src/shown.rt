@@ -1,4 +1,4 @@
-//! Paths, as faults print them.
+//! Paths, as they are printed in lines.
 
 ghost use Rattle.std.specs.Prelude.{◌≡◌, ◌<◌, ◌/◌, ◌%◌, Some, encode_utf8};
 ghost use Rattle.std.specs.Fmt.{WritesOnOk};
@@ -6,10 +6,10 @@ ghost use Rattle.prom_store.specs.Shown.{digit_of, shown};
 
 use std::fmt;
 
-/// A path in the text of a fault. Its `Display` has each control character of ASCII as `\x` and two lower-case hexadecimal digits, so that
-/// the text is one line, and all else as it is.
+/// A path in a line of text. Its `Display` has each control character of ASCII as `\x` and two lower-case hexadecimal digits, so that the text
+/// is one line, and all else as it is.
 #[derive(Clone, Copy, Debug)]
-pub(crate) struct ShownPath<'a>(pub(crate) &'a str);
+pub struct ShownPath<'a>(pub &'a str);
 
 // Returns the lower-case hexadecimal digit of a number.
 fn digit_of(number: u8) -> char

@@ -5,6 +5,5 @@ pub mod LogNames
 pub mod Made
 pub mod Plans
 pub mod Since
-pub mod LostLines
 pub mod Written
 pub mod Listed

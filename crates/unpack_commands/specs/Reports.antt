@@ -2,7 +2,7 @@
 use Rattle.std.specs.Prelude.{◌≡◌, ◌+◌, ◌++◌, ℕ, List, [], length, string_bytes}
 use Rattle.log_source.specs.declared.lost.Lost.{Lost}
 use Rattle.unpack_commands.specs.declared.lost_report.Report.{Report}
-use Rattle.unpack_commands.specs.Rescues.{AreLines}
+use Rattle.log_source.specs.LostLines.{AreLines}
 
 -- nothing is told yet
 pub record BeginsReport (report : Report) : Type 0 where

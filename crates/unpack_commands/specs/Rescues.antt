@@ -1,47 +1,19 @@
 -- What a run of `unpack --past-damage` does.
-use Rattle.std.specs.Prelude.{◌≡◌, ◌≢◌, ◌↔◌, ◌⊎◌, ℕ, List, [], ◌∷◌, ◌++◌, Option, None, codes, string_bytes}
+use Rattle.std.specs.Prelude.{◌≡◌, ◌≢◌, ◌↔◌, ◌⊎◌, ℕ, List, [], ◌++◌, Option, None, string_bytes}
 use Rattle.wal_log.specs.declared.input.Checkpoint.{Checkpoint}
 use Rattle.wal_log.specs.declared.input.Segment.{Segment}
 use Rattle.prom_store.specs.Calls.{Call}
-use Rattle.prom_store.specs.Damages.{file_number, kind_of_file}
 use Rattle.prom_store.specs.Found.{Found}
 use Rattle.prom_store.specs.declared.fault.Status.TheVariants.{Damaged, Done}
 use Rattle.prom_store.specs.declared.requests.UnpackRequest.{UnpackRequest}
 use Rattle.prom_commands.specs.declared.commands.Answer.{Answer}
-use Rattle.std.specs.Fmt.{decimal}
 use Rattle.log_source.specs.declared.lost.Lost.{Lost}
-use Rattle.log_source.specs.declared.lost.LostPart.{LostPart}
-use Rattle.log_source.specs.declared.lost.LostPart.TheVariants.{Missing, PassedOver, CannotRead}
+use Rattle.log_source.specs.LostLines.{AreLines}
 use Rattle.unpack_commands.specs.Folders.{GivesUpLog, IsOut, WritesLog}
 use Rattle.unpack_commands.specs.Since.{seen_since}
 use Rattle.log_source.specs.Rescued.{IsRescuedLogIn}
 
 -- ---- what is told
-
--- what became of a part that is lost
-abbrev pub part_word : LostPart → List ℕ
-part_word Missing = codes "missing "
-part_word (CannotRead unread) = codes "unread "
-part_word (PassedOver passed) = codes "passed "
-
--- an offset in a file, and a number of bytes from there on
-abbrev pub bytes_at : ℕ → ℕ → List ℕ
-bytes_at offset bytes = codes " offset " ++ (decimal offset ++ (codes " bytes " ++ (decimal bytes ++ 32 ∷ [])))
-
--- where the part is in the file
-abbrev pub part_place : LostPart → List ℕ
-part_place Missing = []
-part_place (CannotRead unread) = bytes_at unread.offset unread.bytes
-part_place (PassedOver passed) = bytes_at passed.damage.offset passed.bytes
-
--- the line that tells what is lost, up to why: what became of it, the file, where, and how many bytes
-abbrev pub lost_front : Lost → List ℕ
-lost_front lost = part_word lost.part ++ (kind_of_file lost.in_checkpoint ++ (32 ∷ (file_number lost.number ++ part_place lost.part)))
-
--- the lines that tell what is lost, one behind another, each with a reason
-abbrev pub AreLines : List Lost → List ℕ → Type 0
-AreLines [] text = text ≡ []
-AreLines (lost ∷ more) text = (why : List ℕ) × (rest : List ℕ) × (text ≡ lost_front lost ++ (why ++ (10 ∷ rest))) × AreLines more rest
 
 -- The answer of a log that was written with this lost: its lines come first, and the status is Done if nothing is lost, else Damaged.
 pub record TellsRescued (lost : List Lost) (answer : Answer) : Type 0 where

@@ -1,18 +1,16 @@
 //! What is printed of a log of which all that can be read is written.
 
-ghost use Rattle.std.specs.Prelude.{◌≡◌, ◌==◌, ◌++◌, ◌∷◌, [], ℕ, if◌then◌else◌, IfOk, List, None, OnOk, string_bytes};
-ghost use Rattle.prom_store.specs.Damages.{file_number, kind_of_file as kind_word};
+ghost use Rattle.std.specs.Prelude.{◌≡◌, ◌==◌, if◌then◌else◌, IfOk, List, None, OnOk};
 ghost use Rattle.unpack_commands.specs.Reports.{Tells, BeginsReport};
 ghost use Rattle.log_source.specs.Rescued.{lost_of};
-ghost use Rattle.unpack_commands.specs.Rescues.{AreLines, TellsRescued, bytes_at, lost_front};
+ghost use Rattle.unpack_commands.specs.Rescues.{TellsRescued};
 
 use crate::report::Totals;
 use log_references::References;
-use log_source::{Lost, LostPart, RescuedText};
+use log_source::{Lost, RescuedText, push_lost};
 use prom_commands::Answer;
-use prom_store::{FileNumber, Status, kind_of_file};
+use prom_store::Status;
 use std::alloc::{AllocError, Global};
-use wal_log::Place;
 
 /// What is told: a line for each part that is lost, and how much is written. And the references of all records that are written, which are
 /// lent where a file is read.
@@ -37,93 +35,7 @@ impl Report {
             references: Some(references),
         }
     }
-}
 
-// Appends where a part is in a file.
-fn push_place(lines: &mut String, offset: u64, bytes: u64) -> Result<(), AllocError>
-    ensures { OnOk result (string_bytes lines.new ≡ string_bytes lines.old ++ bytes_at offset bytes) }
-{
-    write!(lines, " offset {offset} bytes {bytes} ")
-}
-
-// Appends a word and a file.
-fn push_file(lines: &mut String, word: &str, lost: Lost) -> Result<(), AllocError>
-    ensures { OnOk result (string_bytes lines.new ≡ string_bytes lines.old ++ (word.now ++ (kind_word lost.in_checkpoint ++ (32 ∷ file_number lost.number)))) }
-{
-    let place = Place {
-        in_checkpoint: lost.in_checkpoint,
-        file: lost.number,
-        offset: 0,
-    };
-    let (of, file) = (kind_of_file(place), FileNumber(lost.number));
-    write!(lines, "{word}{of} {file}")
-}
-
-// Appends the front of the line that tells what is lost.
-fn push_front(lines: &mut String, lost: Lost) -> Result<(), AllocError>
-    ensures { OnOk result (string_bytes lines.new ≡ string_bytes lines.old ++ lost_front lost) }
-{
-    match lost.part {
-        LostPart::Missing => push_file(lines, "missing ", lost),
-        LostPart::CannotRead(unread) => {
-            push_file(lines, "unread ", lost)?;
-            push_place(lines, unread.offset, unread.bytes)
-        }
-        LostPart::PassedOver(passed) => {
-            push_file(lines, "passed ", lost)?;
-            push_place(lines, passed.damage.offset, passed.bytes)
-        }
-    }
-}
-
-// Returns why a part is lost, or no text for one that is missing.
-fn reason_of(alloc: Global, part: LostPart) -> Result<String, AllocError> {
-    match part {
-        LostPart::Missing => Ok(String::new(alloc)),
-        LostPart::CannotRead(unread) => {
-            let reason = unread.reason;
-            format!(in alloc; "{reason}")
-        }
-        LostPart::PassedOver(passed) => {
-            let fault = passed.damage.fault;
-            format!(in alloc; "{fault}")
-        }
-    }
-}
-
-// Appends the line that tells what is lost.
-fn push_line(alloc: Global, lines: &mut String, lost: Lost) -> Result<(), AllocError>
-    ensures { OnOk result ((why : List ℕ) × (string_bytes lines.new ≡ string_bytes lines.old ++ (lost_front lost ++ (why ++ 10 ∷ [])))) }
-{
-    push_front(lines, lost)?;
-    // apart, since no contract says what its text is
-    let why = reason_of(alloc, lost.part)?;
-    lines.push_str(&why)?;
-    lines.push('\n')
-}
-
-// Appends the lines that tell what is lost of a file.
-fn push_lines(
-    alloc: Global,
-    lines: &mut String,
-    in_checkpoint: bool,
-    number: u64,
-    parts: &[LostPart],
-) -> Result<(), AllocError>
-    ensures { OnOk result ((text : List ℕ) × AreLines (lost_of in_checkpoint number parts.now) text × (string_bytes lines.new ≡ string_bytes lines.old ++ text)) }
-{
-    for part in parts {
-        let lost = Lost {
-            in_checkpoint,
-            number,
-            part: *part,
-        };
-        push_line(alloc, lines, lost)?;
-    }
-    Ok(())
-}
-
-impl Report {
     /// Tells of a file that is written.
     pub(crate) fn add(
         &mut self,
@@ -134,7 +46,7 @@ impl Report {
     ) -> Result<(), AllocError>
         ensures { OnOk result (Tells (lost_of in_checkpoint number file.now.lost.items) self.old self.new) }
     {
-        push_lines(alloc, &mut self.lines, in_checkpoint, number, &file.lost)?;
+        push_lost(alloc, &mut self.lines, in_checkpoint, number, &file.lost)?;
         let lost = file.lost.len() as u64;
         self.lost = self.lost.checked_add(lost).ok_or(AllocError)?;
         self.totals.add(file.records, file.text.len() as u64)

@@ -15,8 +15,8 @@ returns g c =
         source.log,
         source.flaw,
         block,
-        c.in_ok-log.ensures,
-        c.in_ok-check_undamaged.ensures,
+        c.in_ok-log.ensures.source,
+        c.in_ok-log.ensures.unhurt,
         subst (λ ulid. IsBlockOfLog request.encoding source.log request.options.min_valid request.hour ulid block) c.in-Ok.ensures.some is,
         c.put_block.ensures.crash,
       );

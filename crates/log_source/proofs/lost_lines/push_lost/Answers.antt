@@ -1,5 +1,5 @@
-use Rattle.unpack_commands.proofs.LostLines.{part_line}
-use Rattle.unpack_commands.proofs.lost_report.push_lines.Goals as goal
+use Rattle.log_source.proofs.LinesOfLost.{part_line}
+use Rattle.log_source.proofs.lost_lines.push_lost.Goals as goal
 
 pub loop-part-preserved : goal.loop-part-preserved
 loop-part-preserved c =

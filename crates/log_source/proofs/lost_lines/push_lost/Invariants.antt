@@ -1,7 +1,7 @@
 use Rattle.std.proofs.Common.{◌≡◌, ◌++◌, ℕ, List, take, string_bytes}
 use Rattle.log_source.specs.Rescued.{lost_of}
-use Rattle.unpack_commands.specs.Rescues.{AreLines}
-use Rattle.unpack_commands.proofs.lost_report.push_lines.Given as goal
+use Rattle.log_source.specs.LostLines.{AreLines}
+use Rattle.log_source.proofs.lost_lines.push_lost.Given as goal
 
 -- the lines of the parts so far are appended
 abbrev pub invariant-loop-part : goal.invariant-loop-part
