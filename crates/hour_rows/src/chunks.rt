@@ -65,11 +65,13 @@ fn xor_chunk_of(alloc: Global, samples: &[Sample]) -> Result<Chunk, AllocError>
     requires few { length samples.now ≤ chunk_samples }
     ensures { IfOk result (λ chunk. chunk ≡ chunk_in Xor samples.now) }
 {
+    let text = xor_chunk::encode(alloc, samples)?;
     Ok(Chunk {
         min_time: time_of(&samples[0]),
         max_time: time_of(&samples[samples.len() - 1]),
         count: samples.len(),
-        text: Items::from_vec(xor_chunk::encode(alloc, samples)?),
+        // a copy has no room for more
+        text: Items::from_vec(Vec::from_slice(alloc, text.as_slice())?),
     })
 }
 

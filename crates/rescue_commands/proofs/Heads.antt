@@ -32,14 +32,14 @@ block_of_hour log m content replayed hour name block (ulid, is) = (
 )
 
 module _ {S : Type 0} (did : S → List Call → S → Type 0) (holds : S → List ℕ → Found → Type 0) (old : S) (form : LogForm) (dir out : List ℕ) (m : ℤ) where
-  pub writes_hours : (log : Files) (own : Option Flaw) (content : Content) (W : Type 0) (new : S) → IsSourceIn form (view_of (holds old)) dir log own → IsNoDamage own → IsReplayed log m None content
-      → WritesHead did holds out content old W new → WritesHours did holds old form dir out m W new
-  writes_hours log own content W new source unhurt replayed (inl failed) = inl failed
-  writes_hours log own content W new source unhurt replayed (inr (hours, are, have)) =
-      inr (log, own, content, hours, source, unhurt, replayed, are, have_more did holds out (IsBlockOfHead content) (IsBlockOfHour log m) (block_of_hour log m content replayed) old new hours W have)
+  pub writes_hours : (log : Files) (own : Option Flaw) (content : Content) (W : Type 0) (Told : Option Flaw → Type 0) (new : S) → IsSourceIn form (view_of (holds old)) dir log own → IsNoDamage own → IsReplayed log m None content
+      → (W → Told own) → WritesHead did holds out content old W new → WritesHours did holds old form dir out m W Told new
+  writes_hours log own content W Told new source unhurt replayed told (inl failed) = inl failed
+  writes_hours log own content W Told new source unhurt replayed told (inr (hours, are, have)) =
+      inr (log, own, content, hours, source, unhurt, replayed, are, have_more did holds out (IsBlockOfHead content) (IsBlockOfHour log m) (block_of_hour log m content replayed) old new hours W have, told)
 
   -- where less is known of whether all went well
-  pub hours_less : (V W : Type 0) (new : S) → (V → W) → WritesHours did holds old form dir out m W new → WritesHours did holds old form dir out m V new
-  hours_less V W new less (inl (same, failed)) = inl (same, (λ v. failed (less v)))
-  hours_less V W new less (inr (log, own, content, hours, source, unhurt, replayed, are, have)) =
-      inr (log, own, content, hours, source, unhurt, replayed, are, have_less did holds out (IsBlockOfHour log m) old new hours V W less have)
+  pub hours_less : (V W : Type 0) (Less Told : Option Flaw → Type 0) (new : S) → (V → W) → ((own : Option Flaw) → V → Told own → Less own) → WritesHours did holds old form dir out m W Told new → WritesHours did holds old form dir out m V Less new
+  hours_less V W Less Told new less turn (inl (same, failed)) = inl (same, (λ v. failed (less v)))
+  hours_less V W Less Told new less turn (inr (log, own, content, hours, source, unhurt, replayed, are, have, told)) =
+      inr (log, own, content, hours, source, unhurt, replayed, are, have_less did holds out (IsBlockOfHour log m) old new hours V W less have, (λ v. turn own v (told (less v))))

@@ -1,4 +1,5 @@
 pub mod Written
+pub mod Groups
 pub mod Heads
 pub mod LostParts
 pub mod SameFiles

@@ -16,6 +16,15 @@ pub not_ok : {T E : Type 0} (Q : E → Type 0) (r : Result T E) → IsErrAnd r Q
 not_ok Q (Ok x) is ok = is
 not_ok Q (Err e) is ok = absurd cc
 
+-- nor is what is known to be an error
+pub err_not_ok : {T E : Type 0} (r : Result T E) (e : E) → r ≡ Err e → IsOk r → ⊥
+err_not_ok (Ok x) e was ok = absurd cc
+err_not_ok (Err f) e was ok = absurd cc
+
+pub ok_is : {T E : Type 0} (r : Result T E) (x : T) → r ≡ Ok x → IsOk r
+ok_is (Ok x) y was = refl
+ok_is (Err f) y was = absurd cc
+
 module _ {S : Type 0} (did : S → List Call → S → Type 0) (holds : S → List ℕ → Found → Type 0) (out : List ℕ) where
   -- ---- hour by hour
 
@@ -36,6 +45,12 @@ module _ {S : Type 0} (did : S → List Call → S → Type 0) (holds : S → Li
     pub have_none : (old : S) (hours : List ℤ) (W : Type 0) → (W → ⊥) → HaveBlocks did holds out P old hours W old
     have_none old [] W failed = refl
     have_none old (hour ∷ hours) W failed = inr (failed, inl refl)
+
+    -- some hours, of which not all went well, and those after them
+    pub have_cut : (old new : S) (hours later : List ℤ) (V W : Type 0) → (V → ⊥) → (W → ⊥) → HaveBlocks did holds out P old hours V new → HaveBlocks did holds out P old (hours ++ later) W new
+    have_cut old new [] later V W not failed same = subst (λ (s : S). HaveBlocks did holds out P old later W s) (sym same) (have_none old later W failed)
+    have_cut old new (hour ∷ hours) later V W not failed (inl (next, has, have)) = inl (next, has, have_cut next new hours later V W not failed have)
+    have_cut old new (hour ∷ hours) later V W not failed (inr (fails, left)) = inr (failed, left)
 
     -- one hour more
     pub have_one_more : (old middle new : S) (hours : List ℤ) (i : ℕ) (hour : ℤ) → i < length hours → hour ≡ get_or hours i hour → HaveBlocks did holds out P old (take i hours) ⊤ middle
@@ -71,11 +86,24 @@ module _ {S : Type 0} (did : S → List Call → S → Type 0) (holds : S → Li
 
   -- ---- one block
 
-  module _ (P : ℤ → Text → Block → Type 0) (old : S) (hour : ℤ) (new : S) (name : Text) (block : Block) (is : P hour name block) where
-    pub has_written : (T E : Type 0) (r : Result T E) → WritesBlock did holds old out name block (IsOk r) new → OnOk r (HasBlock did holds out P old hour new)
-    has_written T E (Ok x) wrote = (name, block, is, inr (writes_less did holds old new ⊤ (IsOk {T = T} {E = E} (Ok x)) (λ _. refl) out name block wrote))
-    has_written T E (Err e) wrote = tt
+  module _ (old new : S) (name : Text) (block : Block) where
+    pub wrote : {T E : Type 0} (r : Result T E) → WritesBlock did holds old out name block (IsOk r) new → OnOk r (WritesBlock did holds old out name block ⊤ new)
+    wrote {T = T} {E = E} (Ok x) it = writes_less did holds old new ⊤ (IsOk {T = T} {E = E} (Ok x)) (λ _. refl) out name block it
+    wrote (Err e) it = tt
 
-    pub given_up : (T E : Type 0) (r : Result T E) → WritesBlock did holds old out name block (IsOk r) new → OnErr r ((new ≡ old) ⊎ GivesUpBlock did holds out P old hour new)
-    given_up T E (Ok x) wrote = tt
-    given_up T E (Err e) wrote = inr (name, block, is, writes_less did holds old new ⊥ (IsOk {T = T} {E = E} (Err e)) (λ (no : ⊥). absurd no) out name block wrote)
+    pub left : {T E : Type 0} (r : Result T E) → WritesBlock did holds old out name block (IsOk r) new → OnErr r ((new ≡ old) ⊎ WritesBlock did holds old out name block ⊥ new)
+    left (Ok x) it = tt
+    left {T = T} {E = E} (Err e) it = inr (writes_less did holds old new ⊥ (IsOk {T = T} {E = E} (Err e)) (λ (no : ⊥). absurd no) out name block it)
+
+    module _ (P : ℤ → Text → Block → Type 0) (hour : ℤ) (is : P hour name block) where
+      pub has : {T E : Type 0} (r : Result T E) → OnOk r (WritesBlock did holds old out name block ⊤ new) → OnOk r (HasBlock did holds out P old hour new)
+      has (Ok x) it = (name, block, is, inr it)
+      has (Err e) it = tt
+
+      pub leaves : (new ≡ old) ⊎ WritesBlock did holds old out name block ⊥ new → (new ≡ old) ⊎ GivesUpBlock did holds out P old hour new
+      leaves (inl same) = inl same
+      leaves (inr it) = inr (name, block, is, it)
+
+      pub has_left : {T E : Type 0} (r : Result T E) → OnErr r ((new ≡ old) ⊎ WritesBlock did holds old out name block ⊥ new) → OnErr r ((new ≡ old) ⊎ GivesUpBlock did holds out P old hour new)
+      has_left (Ok x) it = tt
+      has_left (Err e) it = leaves it

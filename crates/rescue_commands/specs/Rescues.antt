@@ -21,7 +21,7 @@ use Rattle.prom_store.specs.declared.requests.LogForm.TheVariants.{PastDamage}
 use Rattle.prom_store.specs.declared.requests.RescueRequest.{RescueRequest}
 use Rattle.prom_files.specs.Folders.{FileAt}
 use Rattle.log_source.specs.Sources.{IsSourceIn}
-use Rattle.prom_commands.specs.Answers.{IsNoDamage}
+use Rattle.prom_commands.specs.Answers.{IsNoDamage, fault_of}
 use Rattle.prom_commands.specs.declared.commands.Answer.{Answer}
 use Rattle.block_commands.specs.Folders.{WritesBlock, block_files, chunks_in}
 
@@ -60,22 +60,26 @@ pub record AreHours (c : Content) (hours : List ℤ) : Type 0 where
   pub ascend : Ascends hours
   pub exact : (k : ℤ) → Contains hours k ↔ IsSampled k c
 
--- The log in a directory, in a form, was replayed, and hour by hour its blocks were written in the directory `out`; or the call failed before
--- anything was written.
-abbrev pub WritesHours : {S : Type 0} → (S → List Call → S → Type 0) → (S → List ℕ → Found → Type 0) → S → LogForm → List ℕ → List ℕ → ℤ → Type 0 → S → Type 0
-WritesHours did holds old form dir out m WentWell new =
-    ((new ≡ old) × (WentWell → ⊥))
-    ⊎ ((log : Files) × (own : Option Flaw) × (content : Content) × (hours : List ℤ) × IsSourceIn form (view_of (holds old)) dir log own × IsNoDamage own
-    × IsReplayed log m None content × AreHours content hours × HaveBlocks did holds out (IsBlockOfHour log m) old hours WentWell new)
-
 -- nothing failed: no fault is reported, but for parts of the log that are lost
 abbrev pub IsWell : Answer → Type 0
 IsWell answer = (answer.fault ≡ None) ⊎ ((parts : ℕ) × (answer.fault ≡ Some (Lost parts)))
 
+-- how much of the log is lost is reported as the fault, and nothing else is
+abbrev pub TellsLost : Answer → Option Flaw → Type 0
+TellsLost answer own = answer.fault ≡ fault_of own
+
+-- The log in a directory, in a form, was replayed, hour by hour its blocks were written in the directory `out`, and where all went well, what is
+-- wrong with the log was reported; or the call failed before anything was written.
+abbrev pub WritesHours : {S : Type 0} → (S → List Call → S → Type 0) → (S → List ℕ → Found → Type 0) → S → LogForm → List ℕ → List ℕ → ℤ → Type 0 → (Option Flaw → Type 0) → S → Type 0
+WritesHours did holds old form dir out m WentWell Told new =
+    ((new ≡ old) × (WentWell → ⊥))
+    ⊎ ((log : Files) × (own : Option Flaw) × (content : Content) × (hours : List ℤ) × IsSourceIn form (view_of (holds old)) dir log own × IsNoDamage own
+    × IsReplayed log m None content × AreHours content hours × HaveBlocks did holds out (IsBlockOfHour log m) old hours WentWell new × (WentWell → Told own))
+
 -- what `blocks` does
-abbrev pub WritesBlocks : {S : Type 0} → (S → List Call → S → Type 0) → (S → List ℕ → Found → Type 0) → S → BlocksRequest → Type 0 → S → Type 0
-WritesBlocks did holds old request WentWell new = WritesHours did holds old request.form request.dir.now request.out.now request.options.min_valid WentWell new
+abbrev pub WritesBlocks : {S : Type 0} → (S → List Call → S → Type 0) → (S → List ℕ → Found → Type 0) → S → BlocksRequest → Type 0 → (Option Flaw → Type 0) → S → Type 0
+WritesBlocks did holds old request WentWell Told new = WritesHours did holds old request.form request.dir.now request.out.now request.options.min_valid WentWell Told new
 
 -- what `rescue` does
-abbrev pub RescuesBlocks : {S : Type 0} → (S → List Call → S → Type 0) → (S → List ℕ → Found → Type 0) → S → RescueRequest → Type 0 → S → Type 0
-RescuesBlocks did holds old request WentWell new = WritesHours did holds old PastDamage request.dir.now request.out.now request.options.min_valid WentWell new
+abbrev pub RescuesBlocks : {S : Type 0} → (S → List Call → S → Type 0) → (S → List ℕ → Found → Type 0) → S → RescueRequest → Type 0 → (Option Flaw → Type 0) → S → Type 0
+RescuesBlocks did holds old request WentWell Told new = WritesHours did holds old PastDamage request.dir.now request.out.now request.options.min_valid WentWell Told new

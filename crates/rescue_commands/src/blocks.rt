@@ -1,36 +1,18 @@
 //! The command `blocks`: a log becomes blocks.
 
 ghost use Rattle.std.specs.Prelude.{IfOk, IsOk};
-ghost use Rattle.prom_store.specs.Views.{view_of};
-ghost use Rattle.log_source.specs.Sources.{IsSourceIn};
-ghost use Rattle.prom_commands.specs.Answers.{IsNoDamage};
-ghost use Rattle.rescue_commands.specs.Rescues.{IsWell, WritesBlocks};
+ghost use Rattle.rescue_commands.specs.Rescues.{IsWell, TellsLost, WritesBlocks};
 
 use crate::fault::failed;
 use crate::hours::write_hours;
 use crate::report::Telling;
 use block_read::Ulid;
-use log_source::{Source, read_source};
-use prom_commands::{Answer, Progress, check_undamaged, undamaged_head};
-use prom_store::{BlocksRequest, Fault, LogForm, Store};
+use log_source::Source;
+use prom_commands::{Answer, Progress, undamaged_head, undamaged_source};
+use prom_store::{BlocksRequest, Fault, Store};
 use std::alloc::Global;
 use std::sync::Wait;
 use std::thread::Threads;
-
-// Reads the log in a directory in a form. Returns `Damage` if it was read up to damage.
-fn undamaged_source<S: Store>(
-    alloc: Global,
-    store: &S,
-    dir: &str,
-    form: LogForm,
-) -> Result<Source, Fault>
-    ensures source { IfOk result (λ source. IsSourceIn form (view_of (S.holds store.now)) dir.now source.log source.flaw) }
-    ensures unhurt { IfOk result (λ source. IsNoDamage source.flaw) }
-{
-    let source = read_source(alloc, store, dir, form)?;
-    check_undamaged(source.flaw)?;
-    Ok(source)
-}
 
 // Carries out a request, or returns why it failed.
 fn execute<R: Threads + Wait + Sync, S: Store, P: Progress + Sync>(
@@ -40,7 +22,7 @@ fn execute<R: Threads + Wait + Sync, S: Store, P: Progress + Sync>(
     progress: &P,
     request: BlocksRequest<'_>,
 ) -> Result<Answer, Fault>
-    ensures crash { WritesBlocks S.did S.holds store.old request.entry (IsOk result) store.new }
+    ensures crash { WritesBlocks S.did S.holds store.old request.entry (IsOk result) (λ own. IfOk result (λ answer. TellsLost answer own)) store.new }
 {
     let Ok(ulid) = Ulid::new(request.ulid) else {
         return Err(Fault::BadUlid);
@@ -61,7 +43,7 @@ pub fn carry_out_blocks<R: Threads + Wait + Sync, S: Store, P: Progress + Sync>(
     progress: &P,
     request: BlocksRequest<'_>,
 ) -> Answer
-    ensures crash { WritesBlocks S.did S.holds store.old request.entry (IsWell result) store.new }
+    ensures crash { WritesBlocks S.did S.holds store.old request.entry (IsWell result) (TellsLost result) store.new }
 {
     match execute(rt, alloc, store, progress, request) {
         Ok(answer) => answer,

@@ -1,10 +1,10 @@
 //! The block of an hour, as it is cut, and whether it stands in a directory already.
 
-ghost use Rattle.std.specs.Prelude.{◌≡◌, All, IfOk, IsTrue, false};
+ghost use Rattle.std.specs.Prelude.{◌≡◌, All, IfOk, IsTrue, false, map};
 ghost use Rattle.prom_store.specs.Found.{Bytes};
 ghost use Rattle.block_commands.specs.Folders.{block_files, chunks_in};
 ghost use Rattle.rescue_commands.specs.Rescues.{Stands};
-ghost use Rattle.rescue_commands.specs.Steps.{IsBlockOfHead};
+ghost use Rattle.rescue_commands.specs.Steps.{AreBlocksOf, IsBlockOfHead};
 
 use crate::fault::pass_over;
 use crate::naming::text_of;
@@ -15,11 +15,20 @@ use head_column::Hour;
 use head_core::Head;
 use hw_bytes::Items;
 use prom_store::{Fault, Store, join};
+use rayon::prelude::*;
 use std::alloc::Global;
 use std::thread::Threads;
 
-/// A block and its name.
+/// An hour, and the name of its block.
+#[derive(Clone, Copy, Debug)]
+pub(crate) struct NamedHour {
+    pub(crate) hour: Hour,
+    pub(crate) ulid: Ulid,
+}
+
+/// The block of an hour, and its name.
 pub(crate) struct NamedBlock {
+    pub(crate) hour: Hour,
     pub(crate) ulid: Ulid,
     pub(crate) block: Block,
 }
@@ -27,6 +36,7 @@ pub(crate) struct NamedBlock {
 impl Drop for NamedBlock {
     fn drop(self) {
         let NamedBlock {
+            hour: _,
             ulid: _,
             block: _block,
         } = self;
@@ -42,14 +52,38 @@ pub(crate) fn cut_hour<R: Threads + Sync>(
     ulid: Ulid,
 ) -> Result<NamedBlock, Fault>
     requires { head.now.failed ≡ false }
-    ensures { IfOk result (λ named. IsBlockOfHead head.now.content hour named.ulid named.block) }
+    ensures hour { IfOk result (λ named. named.hour ≡ hour) }
+    ensures block { IfOk result (λ named. IsBlockOfHead head.now.content hour named.ulid named.block) }
 {
     // for the proof: what holds of every ULID
     ulid.as_bytes();
     match cut_any(rt, alloc, head, hour, &ulid, Encoding::Xor) {
-        Ok(block) => Ok(NamedBlock { ulid, block }),
+        Ok(block) => Ok(NamedBlock { hour, ulid, block }),
         Err(fault) => Err(of_cut(fault)),
     }
+}
+
+/// Cuts hours of a head, which must not have failed, side by side: in as many threads as there are processors.
+pub(crate) fn cut_each<R: Threads + Sync>(
+    rt: &R,
+    alloc: Global,
+    head: &Head,
+    hours: &[NamedHour],
+) -> Result<Vec<NamedBlock>, Fault>
+    requires { head.now.failed ≡ false }
+    ensures { IfOk result (λ blocks. AreBlocksOf head.now.content (map (λ it. it.hour) hours.now) blocks.items) }
+{
+    hours
+        .par_iter()
+        .with_min_len(1)
+        .map(
+            |it: &NamedHour| -> Result<NamedBlock, Fault>
+                requires { head.now.failed ≡ false }
+                ensures hour { IfOk result (λ named. named.hour ≡ it.now.hour) }
+                ensures block { IfOk result (λ named. IsBlockOfHead head.entry.now.content it.now.hour named.ulid named.block) }
+            { cut_hour(rt, alloc, head, it.hour, it.ulid) },
+        )
+        .collect::<Result<Vec<NamedBlock>, Fault>>(rt, alloc)?
 }
 
 // Returns whether two files have the same bytes.

@@ -1,169 +1,36 @@
 //! Writing a block for each hour of a head.
 
-ghost use Rattle.std.specs.Prelude.{◌≡◌, IsOk, OnErr, OnOk, false};
-ghost use Rattle.block_commands.specs.Folders.{WritesBlock};
-ghost use Rattle.rescue_commands.specs.Rescues.{HasBlock, HaveBlocks};
-ghost use Rattle.rescue_commands.specs.Steps.{IsBlockOfHead, LeavesHour, WritesHead};
+ghost use Rattle.std.specs.Prelude.{◌≡◌, ◌<◌, IsOk, false};
+ghost use Rattle.rescue_commands.specs.Rescues.{HaveBlocks};
+ghost use Rattle.rescue_commands.specs.Steps.{IsBlockOfHead, WritesHead};
 
-use crate::cutting::{NamedBlock, cut_hour};
-use crate::naming::{free_name, next_of, text_of};
-use crate::report::{Telling, printed};
+use crate::report::Telling;
+use crate::run::Run;
 use crate::shelf::{Shelf, shelf_of};
-use crate::told::{HourBlock, told_of};
-use block_commands::write_block;
+use crate::writing::write_next;
 use block_cut::sampled_hours;
 use block_read::Ulid;
 use head_column::Hour;
 use head_core::Head;
 use prom_store::{Fault, Store};
-use std::alloc::{AllocError, Global};
+use std::alloc::Global;
 use std::thread::Threads;
 
-// How far a run is.
-struct Run<'a> {
-    telling: &'a Telling<'a>,
-    // How many hours there are.
-    hours: usize,
-    // The name of the next block that is written, unless another has it. `None` behind the last name.
-    next: Option<Ulid>,
-    // The blocks of the hours so far, the one that is about to be written among them.
-    blocks: Vec<HourBlock>,
-    // The text that is printed, once the block of the last hour is among them.
-    text: String,
-}
+// At most so many hours are cut side by side.
+const MOST_HOURS: usize = 2;
+// The blocks that are in memory at once have about so many series together, unless it is one block.
+const MOST_SERIES: usize = 100_000;
 
-impl Drop for Run<'_> {
-    fn drop(self) {
-        let Run {
-            telling: _,
-            hours: _,
-            next: _,
-            blocks: _blocks,
-            text: _text,
-        } = self;
-    }
-}
-
-impl<'a> Run<'a> {
-    fn new(
-        alloc: Global,
-        telling: &'a Telling<'a>,
-        hours: usize,
-        first: Ulid,
-    ) -> Result<Run<'a>, AllocError> {
-        let text = printed(alloc, telling, &[])?;
-        Ok(Run {
-            telling,
-            hours,
-            next: Some(first),
-            blocks: Vec::new(alloc),
-            text,
-        })
-    }
-
-    // Returns the text.
-    fn into_text(self) -> String {
-        let Run {
-            telling: _,
-            hours: _,
-            next: _,
-            blocks: _blocks,
-            text,
-        } = self;
-        text
-    }
-
-    // Adds the block of an hour. With the last one the text is made, so that nothing can fail once that block is written.
-    fn add(&mut self, alloc: Global, block: HourBlock) -> Result<(), AllocError> {
-        self.blocks.push(block)?;
-        if self.blocks.len() == self.hours {
-            self.text = printed(alloc, self.telling, &self.blocks)?;
-        }
-        Ok(())
-    }
-
-    // Tells the block of an hour.
-    fn tell(
-        &mut self,
-        alloc: Global,
-        hour: Hour,
-        named: &NamedBlock,
-        is_written: bool,
-    ) -> Result<(), Fault> {
-        let block = told_of(alloc, hour, named, is_written)?;
-        self.add(alloc, block)?;
-        Ok(())
-    }
-
-    // Returns the name of the next block that is written.
-    fn take_name(&mut self, names: &[String]) -> Result<Ulid, Fault> {
-        let Some(first) = self.next else {
-            return Err(Fault::BadUlid);
-        };
-        let Some(ulid) = free_name(first, names) else {
-            return Err(Fault::BadUlid);
-        };
-        self.next = next_of(&ulid);
-        Ok(ulid)
-    }
-}
-
-// Writes a block under its name in a directory.
-fn put_block<S: Store>(
-    alloc: Global,
-    store: &mut S,
-    out: &str,
-    named: &NamedBlock,
-) -> Result<(), Fault>
-    ensures { WritesBlock S.did S.holds store.old out.now named.now.ulid named.now.block (IsOk result) store.new }
-{
-    // for the proof: what holds of every ULID
-    named.ulid.as_bytes();
-    let name = text_of(alloc, &named.ulid)?;
-    write_block(alloc, store, out, &name, &named.block)
-}
-
-// Writes the block of an hour of a head.
-fn write_new<R: Threads + Sync, S: Store>(
-    rt: &R,
-    alloc: Global,
-    store: &mut S,
-    head: &Head,
-    hour: Hour,
-    shelf: &Shelf<'_>,
-    run: &mut Run<'_>,
-) -> Result<(), Fault>
+// Returns how many hours of a head are cut side by side.
+fn hours_at_once(head: &Head) -> usize
     requires { head.now.failed ≡ false }
-    ensures done { OnOk result (HasBlock S.did S.holds shelf.now.out.now (IsBlockOfHead head.now.content) store.old hour store.new) }
-    ensures failed { OnErr result (LeavesHour S.did S.holds shelf.now.out.now head.now.content store.old hour store.new) }
+    ensures { 0 < result }
 {
-    let ulid = run.take_name(&shelf.names)?;
-    let named = cut_hour(rt, alloc, head, hour, ulid)?;
-    run.tell(alloc, hour, &named, true)?;
-    put_block(alloc, store, shelf.out, &named)
+    let series = head.series().max(1);
+    (MOST_SERIES / series).clamp(1, MOST_HOURS)
 }
 
-// Writes the block of an hour of a head, unless it stands in the directory.
-fn write_hour<R: Threads + Sync, S: Store>(
-    rt: &R,
-    alloc: Global,
-    store: &mut S,
-    head: &Head,
-    hour: Hour,
-    shelf: &Shelf<'_>,
-    run: &mut Run<'_>,
-) -> Result<(), Fault>
-    requires { head.now.failed ≡ false }
-    ensures done { OnOk result (HasBlock S.did S.holds shelf.now.out.now (IsBlockOfHead head.now.content) store.old hour store.new) }
-    ensures failed { OnErr result (LeavesHour S.did S.holds shelf.now.out.now head.now.content store.old hour store.new) }
-{
-    match shelf.find(rt, alloc, store, head, hour)? {
-        Some(named) => run.tell(alloc, hour, &named, false),
-        None => write_new(rt, alloc, store, head, hour, shelf, run),
-    }
-}
-
-// Writes the blocks of hours of a head.
+// Writes the blocks of hours of a head, some at a time.
 fn write_each<R: Threads + Sync, S: Store>(
     rt: &R,
     alloc: Global,
@@ -176,8 +43,12 @@ fn write_each<R: Threads + Sync, S: Store>(
     requires { head.now.failed ≡ false }
     ensures { HaveBlocks S.did S.holds shelf.now.out.now (IsBlockOfHead head.now.content) store.old hours.now (IsOk result) store.new }
 {
-    for hour in hours {
-        write_hour(rt, alloc, store, head, *hour, shelf, run)?;
+    let at_once = hours_at_once(head);
+    let mut rest = hours;
+    while !rest.is_empty() {
+        let (next, later) = rest.split_at(at_once.min(rest.len()));
+        write_next(rt, alloc, store, head, next, shelf, run)?;
+        rest = later;
     }
     Ok(())
 }

@@ -1,9 +1,9 @@
 //! The document that `rescue` prints with `--json`.
 
-use crate::lost::{Stretch, kind_of, parts_of, reason_of, records_of, stretch_of, word_of};
+use crate::lost::{Stretch, kind_of, records_of, stretch_of, word_of};
 use crate::report::Rescued;
 use crate::told::{HourBlock, samples_of};
-use log_source::{FileRead, LostPart};
+use log_source::{FileRead, LostPart, lost_count};
 use prom_figures::ends;
 use serde_json::{Map, Value, put};
 use std::alloc::{AllocError, Global};
@@ -38,7 +38,7 @@ fn put_reason(
 ) -> Result<(), AllocError> {
     let why = match part {
         LostPart::Missing => Value::Null,
-        _ => Value::from(reason_of(alloc, part)?),
+        _ => Value::from(part.reason(alloc)?),
     };
     put(members, alloc, "why", why)
 }
@@ -196,7 +196,7 @@ fn put_read(
     alloc: Global,
     files: &[FileRead],
 ) -> Result<(), AllocError> {
-    let (records, lost) = (records_of(files)?, parts_of(files)?);
+    let (records, lost) = (records_of(files)?, lost_count(files)?);
     put(members, alloc, "records", Value::from(records))?;
     put(members, alloc, "lost", Value::from(lost))
 }

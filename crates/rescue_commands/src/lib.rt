@@ -2,7 +2,7 @@
 //! all that can be read of a log, which says besides what was read of each file and what is lost.
 //!
 //! The blocks have chunks that a server opens. An hour whose block stands in the directory already, byte for byte, is left: a run that was cut
-//! off is done again. In memory are the head and one block at a time.
+//! off is done again. In memory are the head and up to two blocks at a time, one where the head has many series.
 #![tactic(auto)]
 
 mod blocks;
@@ -14,9 +14,11 @@ mod lost;
 mod naming;
 mod report;
 mod rescue;
+mod run;
 mod shelf;
 mod standing;
 mod told;
+mod writing;
 
 pub use blocks::carry_out_blocks;
 pub use prom_store::{BlocksRequest, RescueRequest};

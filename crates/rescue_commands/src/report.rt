@@ -1,10 +1,11 @@
 //! The texts that are printed.
 
 use crate::json::document;
-use crate::lost::{parts_of, push_file, records_of};
+use crate::lost::{push_file, records_of};
 use crate::told::{HourBlock, samples_of};
-use log_source::FileRead;
+use log_source::{FileRead, lost_count};
 use prom_figures::ends;
+use prom_store::ShownPath;
 use std::alloc::{AllocError, Global};
 
 /// What `rescue` tells beside the blocks.
@@ -74,26 +75,11 @@ fn push_sums(text: &mut String, blocks: &[HourBlock]) -> Result<(), AllocError> 
     writeln!(text, "blocks {number}\nsamples {samples}")
 }
 
-// Appends a path, each control character of ASCII as `\x` and two hexadecimal digits, so that it is on one line.
-fn push_path(text: &mut String, path: &str) -> Result<(), AllocError> {
-    for c in path.chars() {
-        if c.is_ascii_control() {
-            let byte = c as u8;
-            write!(text, "\\x{byte:02x}")?;
-        } else {
-            text.push(c)?;
-        }
-    }
-    Ok(())
-}
-
 // Appends the least valid time and where it is from, if that is told.
 fn push_least(text: &mut String, rescued: &Rescued<'_>) -> Result<(), AllocError> {
     if let Some(data) = rescued.data {
-        let least = rescued.min_valid;
-        write!(text, "min_valid {least} by the blocks in ")?;
-        push_path(text, data)?;
-        text.push('\n')?;
+        let (least, data) = (rescued.min_valid, ShownPath(data));
+        writeln!(text, "min_valid {least} by the blocks in {data}")?;
     }
     Ok(())
 }
@@ -108,7 +94,7 @@ fn push_files(text: &mut String, alloc: Global, files: &[FileRead]) -> Result<()
 
 // Appends the sums over files.
 fn push_read(text: &mut String, files: &[FileRead]) -> Result<(), AllocError> {
-    let (number, records, lost) = (files.len(), records_of(files)?, parts_of(files)?);
+    let (number, records, lost) = (files.len(), records_of(files)?, lost_count(files)?);
     writeln!(text, "files {number}\nrecords {records}\nlost {lost}")
 }
 

@@ -1,16 +1,15 @@
 //! The command `rescue`: all that can be read of a log becomes blocks.
 
-ghost use Rattle.std.specs.Prelude.{◌≡◌, IsOk, false};
-ghost use Rattle.rescue_commands.specs.Rescues.{IsWell, RescuesBlocks};
+ghost use Rattle.std.specs.Prelude.{◌≡◌, IfOk, IsOk, false};
+ghost use Rattle.rescue_commands.specs.Rescues.{IsWell, RescuesBlocks, TellsLost};
 ghost use Rattle.rescue_commands.specs.Steps.{WritesHead};
 
 use crate::fault::failed;
 use crate::hours::write_hours;
-use crate::lost::flaw_of;
 use crate::report::{Rescued, Telling};
 use block_read::Ulid;
 use head_core::{Counts, Head};
-use log_source::{FileRead, RescuedLog, read_rescued};
+use log_source::{FileRead, RescuedLog, flaw_of_reads, read_rescued};
 use prom_commands::{Answer, Progress, undamaged_head};
 use prom_store::{Fault, RescueRequest, Store};
 use std::alloc::Global;
@@ -62,13 +61,13 @@ fn execute<R: Threads + Wait + Sync, S: Store, P: Progress + Sync>(
     progress: &P,
     request: RescueRequest<'_>,
 ) -> Result<Answer, Fault>
-    ensures crash { RescuesBlocks S.did S.holds store.old request.entry (IsOk result) store.new }
+    ensures crash { RescuesBlocks S.did S.holds store.old request.entry (IsOk result) (λ own. IfOk result (λ answer. TellsLost answer own)) store.new }
 {
     let Ok(ulid) = Ulid::new(request.ulid) else {
         return Err(Fault::BadUlid);
     };
     let RescuedLog { log, files } = read_rescued(alloc, store, request.dir)?;
-    let flaw = flaw_of(&files)?;
+    let flaw = flaw_of_reads(&files)?;
     let head = undamaged_head(rt, alloc, progress, log, &request.options)?;
     let text = write_rescued(rt, alloc, store, &head, request, ulid, files)?;
     Ok(Answer::up_to(text, flaw))
@@ -84,7 +83,7 @@ pub fn carry_out_rescue<R: Threads + Wait + Sync, S: Store, P: Progress + Sync>(
     progress: &P,
     request: RescueRequest<'_>,
 ) -> Answer
-    ensures crash { RescuesBlocks S.did S.holds store.old request.entry (IsWell result) store.new }
+    ensures crash { RescuesBlocks S.did S.holds store.old request.entry (IsWell result) (TellsLost result) store.new }
 {
     match execute(rt, alloc, store, progress, request) {
         Ok(answer) => answer,

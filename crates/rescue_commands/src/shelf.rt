@@ -76,7 +76,7 @@ fn same_block<R: Threads + Sync, S: Store>(
     ulid: Ulid,
 ) -> Result<Option<NamedBlock>, Fault>
     requires { head.now.failed ≡ false }
-    ensures { IfOk result (λ found. IfSome found (λ same. IsBlockOfHead head.now.content hour same.ulid same.block × Stands (S.holds store.now) out.now same.ulid same.block)) }
+    ensures { IfOk result (λ found. IfSome found (λ same. (same.hour ≡ hour) × IsBlockOfHead head.now.content hour same.ulid same.block × Stands (S.holds store.now) out.now same.ulid same.block)) }
 {
     let named = cut_hour(rt, alloc, head, hour, ulid)?;
     if !stands(alloc, store, out, &named)? {
@@ -86,6 +86,13 @@ fn same_block<R: Threads + Sync, S: Store>(
 }
 
 impl Shelf<'_> {
+    /// Returns whether a block that stands in the directory is said to be of one of these hours.
+    pub(crate) fn has_any(&self, hours: &[Hour]) -> bool {
+        self.blocks
+            .iter()
+            .any(|block| hours.iter().any(|hour| is_of(block, *hour)))
+    }
+
     /// Returns the block of an hour of a head, which must not have failed, if it stands in the directory, byte for byte.
     pub(crate) fn find<R: Threads + Sync, S: Store>(
         &self,
@@ -96,7 +103,7 @@ impl Shelf<'_> {
         hour: Hour,
     ) -> Result<Option<NamedBlock>, Fault>
         requires { head.now.failed ≡ false }
-        ensures { IfOk result (λ found. IfSome found (λ same. IsBlockOfHead head.now.content hour same.ulid same.block × Stands (S.holds store.now) self.now.out.now same.ulid same.block)) }
+        ensures { IfOk result (λ found. IfSome found (λ same. (same.hour ≡ hour) × IsBlockOfHead head.now.content hour same.ulid same.block × Stands (S.holds store.now) self.now.out.now same.ulid same.block)) }
     {
         for block in &self.blocks {
             if is_of(block, hour) {

@@ -37,14 +37,13 @@ fn counted(alloc: Global, block: &Block) -> Result<(u64, u64), AllocError> {
 /// Returns what is told of the block of an hour.
 pub(crate) fn told_of(
     alloc: Global,
-    hour: Hour,
     named: &NamedBlock,
     is_written: bool,
 ) -> Result<HourBlock, AllocError> {
     let (series, samples) = counted(alloc, &named.block)?;
     Ok(HourBlock {
         ulid: named.ulid,
-        hour,
+        hour: named.hour,
         series,
         samples,
         is_written,
