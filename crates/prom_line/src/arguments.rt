@@ -6,10 +6,15 @@
 use clap::{Arg, ArgAction, Command, value_parser};
 use std::alloc::{AllocError, Global};
 
+// What help says of an option that several commands have.
+const BLOCKS_INTO: &str = "The directory in which a folder is made for each block; it must exist";
+
+const PAST_DAMAGE: &str = "Go on after damage with all that can be read, compressed or not";
+
 pub(crate) fn dir<'a>(alloc: Global) -> Arg<'a> {
     Arg::new(alloc, "dir")
         .value_name("DIR")
-        .help("The directory of the log: a server's `wal`")
+        .help("The directory of the log: a server's `wal`, or a copy of it")
         .required(true)
 }
 
@@ -17,7 +22,7 @@ fn workers<'a>(alloc: Global) -> Arg<'a> {
     Arg::new(alloc, "workers")
         .long("workers")
         .value_name("N")
-        .help("How many workers replay the log, 1 to 64")
+        .help("How many threads replay the log, 1 to 64; no result depends on it")
         .value_parser(value_parser!(u8).range(1..=64))
         .default_value("4")
 }
@@ -26,7 +31,7 @@ fn round_pages<'a>(alloc: Global) -> Arg<'a> {
     Arg::new(alloc, "round-pages")
         .long("round-pages")
         .value_name("P")
-        .help("How many pages of the log are taken in a round")
+        .help("How many pages are held decoded at a time, 1 to 65536; no result depends on it")
         .value_parser(value_parser!(u32).range(1..=65_536))
         .default_value("256")
 }
@@ -47,14 +52,14 @@ fn flag<'a>(alloc: Global, name: &'static str) -> Arg<'a> {
 
 pub(crate) fn min_valid<'a>(alloc: Global) -> Arg<'a> {
     number(alloc, "min-valid", "M").help(
-        "The least valid time in milliseconds; samples and deletions before it are expired",
+        "Leave out samples before this time in milliseconds, and deletions that end before it",
     )
 }
 
 // Returns the option of the least valid time where nothing is replayed, and only notes are by it.
 pub(crate) fn noted_from<'a>(alloc: Global) -> Arg<'a> {
     number(alloc, "min-valid", "M").help(
-        "The least valid time in milliseconds; samples before it get no note",
+        "Leave out notes on samples before this time in milliseconds",
     )
 }
 
@@ -63,7 +68,7 @@ fn min_valid_of<'a>(alloc: Global) -> Result<Arg<'a>, AllocError> {
     Arg::new(alloc, "min-valid-of")
         .long("min-valid-of")
         .value_name("DATA")
-        .help("Take the least valid time from the blocks of a data directory")
+        .help("Take the time of --min-valid from the blocks in a server's data directory")
         .conflicts_with("min-valid")
 }
 
@@ -97,7 +102,7 @@ pub(crate) fn pair<'a>(alloc: Global) -> Arg<'a> {
     Arg::new(alloc, "pair")
         .long("pair")
         .value_name("NAME=VALUE")
-        .help("Only the series with this label, spelled as it is printed")
+        .help("Print only series with this label, spelled as `series` prints it")
 }
 
 pub(crate) fn json<'a>(alloc: Global) -> Arg<'a> {
@@ -108,30 +113,30 @@ pub(crate) fn most<'a>(alloc: Global) -> Arg<'a> {
     Arg::new(alloc, "most")
         .long("most")
         .value_name("N")
-        .help("How many lines each list has at most")
+        .help("Print at most this many lines of each list")
         .value_parser(value_parser!(u32))
         .default_value("10")
 }
 
 pub(crate) fn from<'a>(alloc: Global) -> Arg<'a> {
-    number(alloc, "from", "T").help("Only samples at this time or later, in milliseconds")
+    number(alloc, "from", "T").help("Print only samples at this time or later, in milliseconds")
 }
 
 pub(crate) fn to<'a>(alloc: Global) -> Arg<'a> {
-    number(alloc, "to", "T").help("Only samples at this time or earlier, in milliseconds")
+    number(alloc, "to", "T").help("Print only samples at this time or earlier, in milliseconds")
 }
 
 pub(crate) fn floats<'a>(alloc: Global) -> Arg<'a> {
-    flag(alloc, "floats").help("Values are floating point numbers, as a server means them")
+    flag(alloc, "floats").help("Print or take values as floating point numbers, as a server does")
 }
 
 pub(crate) fn hidden<'a>(alloc: Global) -> Arg<'a> {
-    flag(alloc, "hidden").help("Also samples that deletions hide")
+    flag(alloc, "hidden").help("Print samples that deletions hide, too")
 }
 
 pub(crate) fn hour<'a>(alloc: Global) -> Arg<'a> {
     number(alloc, "hour", "K")
-        .help("The hour: it begins at K * 3600000 milliseconds")
+        .help("The hour that begins at K * 3600000 milliseconds")
         .required(true)
 }
 
@@ -139,25 +144,25 @@ pub(crate) fn ulid<'a>(alloc: Global) -> Result<Arg<'a>, AllocError> {
     Arg::new(alloc, "ulid")
         .long("ulid")
         .value_name("U")
-        .help("The name of the block, a ULID; with --xor, one is made if it is left out")
+        .help("The name of the block, a ULID; with --xor it may be left out, and one is made")
         .required_unless_present("xor")
 }
 
 pub(crate) fn first_ulid<'a>(alloc: Global) -> Arg<'a> {
     Arg::new(alloc, "ulid").long("ulid").value_name("U").help(
-        "The name of the first block, a ULID, from which the others are counted up; one is made if it is left out",
+        "The name of the first block, a ULID; the other names count up from it. If left out, one is made",
     )
 }
 
 pub(crate) fn xor<'a>(alloc: Global) -> Arg<'a> {
-    flag(alloc, "xor").help("Write XOR chunks, as a server does, so that it opens the block")
+    flag(alloc, "xor").help("Write XOR chunks, so that a server opens the block")
 }
 
 pub(crate) fn out<'a>(alloc: Global) -> Arg<'a> {
     Arg::new(alloc, "out")
         .long("out")
         .value_name("OUT")
-        .help("The directory in which the block's folder is made")
+        .help(BLOCKS_INTO)
         .required(true)
 }
 
@@ -165,7 +170,7 @@ pub(crate) fn blocks_out<'a>(alloc: Global) -> Arg<'a> {
     Arg::new(alloc, "out")
         .long("out")
         .value_name("OUT")
-        .help("The directory in which the folders of the blocks are made")
+        .help(BLOCKS_INTO)
         .required(true)
 }
 
@@ -173,7 +178,7 @@ pub(crate) fn new_log<'a>(alloc: Global) -> Arg<'a> {
     Arg::new(alloc, "out")
         .long("out")
         .value_name("OUT")
-        .help("The directory that is made for the log")
+        .help("The directory that is made for the copy; it must not exist")
         .required(true)
 }
 
@@ -186,9 +191,7 @@ fn unpacked<'a>(alloc: Global) -> Arg<'a> {
 
 // Returns the option that reads what is behind damage.
 fn all_readable<'a>(alloc: Global) -> Arg<'a> {
-    flag(alloc, "past-damage").help(
-        "Read all that can be read, compressed or not, also what is behind damage",
-    )
+    flag(alloc, "past-damage").help(PAST_DAMAGE)
 }
 
 /// Adds the options of the form in which a log is read to a command.
@@ -200,17 +203,19 @@ pub(crate) fn in_forms<'a>(
 }
 
 pub(crate) fn through_damage<'a>(alloc: Global) -> Arg<'a> {
-    flag(alloc, "through-damage").help("Of a damaged log, write what is before the damage")
+    flag(alloc, "through-damage").help("Write what is before the damage of a damaged log")
 }
 
 pub(crate) fn past_damage<'a>(alloc: Global) -> Result<Arg<'a>, AllocError> {
     flag(alloc, "past-damage")
-        .help("Write all that can be read, also what is behind damage")
+        .help(PAST_DAMAGE)
         .conflicts_with("through-damage")
 }
 
 pub(crate) fn keep_skipped<'a>(alloc: Global) -> Arg<'a> {
-    flag(alloc, "keep-skipped").help("Copy records of types that are not read, as they are")
+    flag(alloc, "keep-skipped").help(
+        "Copy exemplars, metadata, native histograms and other types too, as they are",
+    )
 }
 
 pub(crate) fn path<'a>(alloc: Global) -> Arg<'a> {
@@ -224,6 +229,6 @@ pub(crate) fn rows<'a>(alloc: Global) -> Arg<'a> {
     Arg::new(alloc, "rows")
         .long("rows")
         .value_name("FILE")
-        .help("The rows, a line each: TIME VALUE NAME=VALUE ..")
+        .help("The file of rows, one on each line: TIME VALUE NAME=VALUE ..")
         .required(true)
 }

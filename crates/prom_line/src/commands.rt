@@ -49,7 +49,7 @@ fn records<'a>(alloc: Global) -> Result<Command<'a>, AllocError> {
 }
 
 fn inspect<'a>(alloc: Global) -> Result<Command<'a>, AllocError> {
-    let about = "Says what each file of the log holds, and what may be lost";
+    let about = "Reports what each file of the log holds, and what may be lost";
     let command = on_log(alloc, "inspect", about, texts::INSPECT);
     with_min_valid(alloc, also(command, json(alloc)), noted_from(alloc))
 }
@@ -61,7 +61,7 @@ fn series<'a>(alloc: Global) -> Result<Command<'a>, AllocError> {
 }
 
 fn analyze<'a>(alloc: Global) -> Result<Command<'a>, AllocError> {
-    let about = "Says which metrics and labels make the log large";
+    let about = "Ranks the metrics and labels that make the log large";
     let command = on_log(alloc, "analyze", about, texts::ANALYZE);
     replaying(alloc, also(command, most(alloc)))
 }
@@ -74,51 +74,57 @@ fn dump<'a>(alloc: Global) -> Result<Command<'a>, AllocError> {
 }
 
 fn ranges<'a>(alloc: Global) -> Result<Command<'a>, AllocError> {
-    let about = "Lists the hours of the log that can be cut";
+    let about = "Lists the full hours of the log, which `cut` can write";
     replaying(alloc, on_log(alloc, "ranges", about, texts::RANGES))
 }
 
 fn cut<'a>(alloc: Global) -> Result<Command<'a>, AllocError> {
-    let about = "Cuts an hour of the log into a block";
+    let about = "Writes one full hour of the log as a block";
     let command = on_log(alloc, "cut", about, texts::CUT);
     let command = also(also(command, hour(alloc)), ulid(alloc)?);
     replaying(alloc, also(also(command, out(alloc)), xor(alloc)))
 }
 
 fn blocks<'a>(alloc: Global) -> Result<Command<'a>, AllocError> {
-    let about = "Writes a block for each hour of the log, for a server to open";
+    let about = "Writes each hour of the log as a block that a server opens";
     let command = on_log(alloc, "blocks", about, texts::BLOCKS);
     let command = also(also(command, blocks_out(alloc)), first_ulid(alloc));
     replaying(alloc, command)
 }
 
 fn rescue<'a>(alloc: Global) -> Result<Command<'a>, AllocError> {
-    let about = "Writes blocks of all that can be read of a log, for a server that does not start";
+    let about = "Writes all that can be read as blocks, for a server that does not start";
     let command = on_log(alloc, "rescue", about, texts::RESCUE);
     let command = also(also(command, blocks_out(alloc)), first_ulid(alloc));
     replaying_as_it_is(alloc, also(command, json(alloc)))
 }
 
 fn block<'a>(alloc: Global) -> Result<Command<'a>, AllocError> {
-    named(alloc, "block", "Says what a block holds", texts::BLOCK).arg(path(alloc))
+    named(
+        alloc,
+        "block",
+        "Checks a block, and prints what it holds",
+        texts::BLOCK,
+    )
+    .arg(path(alloc))
 }
 
 fn append<'a>(alloc: Global) -> Result<Command<'a>, AllocError> {
-    let about = "Appends rows to the log, in a new segment";
+    let about = "Appends rows of samples to the log, in a new segment";
     let command = on_log(alloc, "append", about, texts::APPEND);
     let command = also(also(command, rows(alloc)), floats(alloc));
     replaying_as_it_is(alloc, command)
 }
 
 fn checkpoint<'a>(alloc: Global) -> Result<Command<'a>, AllocError> {
-    let about = "Makes a checkpoint of the log";
+    let about = "Writes a checkpoint: what is still needed of the log";
     let command = in_forms(alloc, on_log(alloc, "checkpoint", about, texts::CHECKPOINT));
     let command = with_min_valid(alloc, command, min_valid(alloc).required(true));
     also(command, keep_skipped(alloc))
 }
 
 fn unpack<'a>(alloc: Global) -> Result<Command<'a>, AllocError> {
-    let about = "Writes the log anew without compression, as the other commands read it";
+    let about = "Writes an uncompressed copy of the log, which all commands read";
     let command = on_log(alloc, "unpack", about, texts::UNPACK);
     let command = also(also(command, new_log(alloc)), through_damage(alloc));
     also(command, past_damage(alloc)?)
@@ -134,7 +140,8 @@ fn with<'a>(
 
 /// Makes the program's command with all its subcommands.
 pub(crate) fn program<'a>(alloc: Global) -> Result<Command<'a>, AllocError> {
-    let about = "Reads a write-ahead log of samples, cuts it into blocks, and goes on writing it";
+    let about =
+        "Looks inside a Prometheus write-ahead log before a server does, and rescues a damaged one";
     // by whatever name it is called, help and usage say this one
     let command = named(alloc, "prom_head", about, texts::PROGRAM)
         .bin_name("prom_head")?

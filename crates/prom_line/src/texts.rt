@@ -1,56 +1,63 @@
-//! What `--help` says behind a command's options: what it writes, an example, and its exit statuses.
+//! What `--help` says after a command's options: what it writes, an example, and its exit statuses.
 
 pub(crate) const REPLAY: &str = "\
-Writes nothing. The last line is `damage none`, or says where the log is damaged and how, or, with
---past-damage, how many parts of it are lost.
+Writes nothing. Prints a count on each line. `accepted` are samples that are later than all earlier
+ones of their series. `stale` are the others: out of order or duplicate timestamp (not a staleness
+marker). `unknown` are samples whose series no earlier series record defines. The last line is
+`damage none`, or the place and the kind of the first damage, or, with --past-damage, how many
+parts of the log are lost.
 
 Example:
-  prom_head replay /var/lib/prometheus/metrics2/wal
+  prom_head replay /var/lib/prometheus/metrics2/wal -z
 
 Exit status:
   0  the log was read to its end
   1  the log is damaged: what is before the damage was counted
   2  the command line is wrong
-  3  a file cannot be read, or the log has too much for a head
+  3  a file cannot be read or is missing, or the log has more series than fit (2^32 - 1)
   4  out of memory, or a thread could not start";
 
 pub(crate) const RECORDS: &str = "\
-Writes nothing. The last line is `damage none`, or says where the log is damaged and how, or, with
---past-damage, how many parts of it are lost.
+Writes nothing. Prints a line for each record: its file, offset, kind, and number of entries. The
+last line is `damage none`, or the place and the kind of the first damage, or, with --past-damage,
+how many parts of the log are lost.
 
 Example:
-  prom_head records /var/lib/prometheus/metrics2/wal | tail -1
+  prom_head records /var/lib/prometheus/metrics2/wal -z | tail -1
 
 Exit status:
   0  the log was read to its end
   1  the log is damaged: the records before the damage were listed
   2  the command line is wrong
-  3  a file cannot be read
+  3  a file cannot be read or is missing
   4  out of memory";
 
 pub(crate) const INSPECT: &str = "\
-Writes nothing. Each file is read by itself, also behind one that is damaged. Notes say what
-may be lost. A log also has samples that blocks have by now, and their series may be gone from
-it: name the data directory by --min-valid-of, and there is no note on such samples.
+Writes nothing. Reads each file by itself, compressed or not, also after a damaged one. Also
+reports empty and zero-filled files, and segments that are missing after the checkpoint, which a
+replay silently skips. A note says that something may be lost.
+
+A log may have samples of which blocks have a copy and whose series records are gone. To get no
+notes on these, name the server's data directory by --min-valid-of.
 
 Example:
   prom_head inspect /var/lib/prometheus/metrics2/wal --min-valid-of /var/lib/prometheus/metrics2
 
 Exit status:
-  0  each file was read to its end, and there is nothing to note
+  0  each file was read to its end, and there is no note
   1  there is a note: something may be lost, or no log is there
   2  the command line is wrong
   3  a file cannot be read
   4  out of memory";
 
 pub(crate) const UNPACK: &str = "\
-A server compresses its log by default. Writes the directory OUT, and nothing else: each file of
-the log under its own number, with the same records, none of them compressed. A crash leaves no
-half log: what was not finished stays as OUT.tmp, and you may remove it.
+Writes the directory OUT, and nothing else: each file of the log under its own number, with the
+same records, none of them compressed. OUT must not exist. Don't run it on a log that is being
+written. After a crash OUT is whole or not there. An unfinished copy stays as OUT.tmp, and you may
+remove it.
 
-With --past-damage OUT is a sound log of all that can be read of a damaged one: behind damage too,
-with an empty segment for each one that is missing, and of a file that cannot be read the rest of
-it. A line for each tells what was passed over, and where.
+With --past-damage OUT is a sound log of all that can be read of a damaged one, also after damage.
+A missing segment becomes an empty one. A line for each lost part reports where it is.
 
 Examples:
   prom_head unpack /var/lib/prometheus/metrics2/wal --out wal
@@ -65,66 +72,67 @@ Exit status:
   4  out of memory";
 
 pub(crate) const SERIES: &str = "\
-Writes nothing.
+Writes nothing. Prints a line for each series: its number, how many samples it has, and its labels.
 
 Example:
-  prom_head series /var/lib/prometheus/metrics2/wal --pair job=prometheus
+  prom_head series /var/lib/prometheus/metrics2/wal -z --pair job=prometheus
 
 Exit status:
   0  the log was read to its end
   1  the log is damaged: the series before the damage were listed
   2  the command line is wrong
-  3  a file cannot be read, or the log has too much for a head
+  3  a file cannot be read or is missing, or the log has more series than fit (2^32 - 1)
   4  out of memory, or a thread could not start";
 
 pub(crate) const ANALYZE: &str = "\
-Writes nothing. Lists label names by their values, metrics by series and by samples, and
-labels by series, each greatest first.
+Writes nothing. Ranks label names by their number of values, metrics by series and by samples, and
+labels by series, the greatest first.
 
 Example:
-  prom_head analyze /var/lib/prometheus/metrics2/wal --most 20
+  prom_head analyze /var/lib/prometheus/metrics2/wal -z --most 20
 
 Exit status:
   0  the log was read to its end
   1  the log is damaged: what is before the damage was counted
   2  the command line is wrong
-  3  a file cannot be read, or the log has too much for a head
+  3  a file cannot be read or is missing, or the log has more series than fit (2^32 - 1)
   4  out of memory, or a thread could not start";
 
 pub(crate) const DUMP: &str = "\
-Writes nothing. A line is the labels of a series, a time in milliseconds, and a value: a whole
-number, the 64 bits that the log holds. A server means a floating point number by these bits:
---floats prints that.
+Writes nothing. Prints a line for each accepted sample that no deletion hides: the labels of its
+series, a time in milliseconds, and a value. A value is printed as a whole number, the 64 bits that
+the log holds. A server reads these bits as a floating point number: --floats prints that.
 
 Example:
-  prom_head dump /var/lib/prometheus/metrics2/wal --pair __name__=up --floats
+  prom_head dump /var/lib/prometheus/metrics2/wal -z --pair __name__=up --floats
 
 Exit status:
   0  the log was read to its end
   1  the log is damaged: the samples before the damage were printed
   2  the command line is wrong
-  3  a file cannot be read, or the log has too much for a head
+  3  a file cannot be read or is missing, or the log has more series than fit (2^32 - 1)
   4  out of memory, or a thread could not start";
 
 pub(crate) const RANGES: &str = "\
-Writes nothing.
+Writes nothing. Prints a line for each hour: its number, its start, and its end in milliseconds.
+An hour is listed if it has a sample, and if the log has a sample at its end or later.
 
 Example:
-  prom_head ranges /var/lib/prometheus/metrics2/wal
+  prom_head ranges /var/lib/prometheus/metrics2/wal -z
 
 Exit status:
   0  the log was read to its end
   1  the log is damaged: the hours before the damage were listed
   2  the command line is wrong
-  3  a file cannot be read, or the log has too much for a head
+  3  a file cannot be read or is missing, or the log has more series than fit (2^32 - 1)
   4  out of memory, or a thread could not start";
 
 pub(crate) const CUT: &str = "\
-Writes the folder OUT/U, and nothing else. The log stays as it is. A crash leaves no half block:
-what was not finished stays as OUT/U.tmp, and you may remove it.
+Writes the folder OUT/U, and nothing else. OUT must exist. The log is not changed. After a crash
+the block is whole or not there. An unfinished one stays as OUT/U.tmp, and you may remove it.
 
-Without --xor only this program reads the chunks of the block. With --xor a server opens it, and
-answers queries from it: OUT is then its data directory, or the folder is moved there.
+With --xor a server opens the block, and answers queries from it: OUT is then its data directory,
+or you move the folder there. Without --xor only this program reads the chunks of the block.
 
 Example:
   prom_head cut wal --hour 472222 --ulid 01ARZ3NDEKTSV4RRFFQ69G5FAV --out blocks
@@ -138,11 +146,11 @@ Exit status:
   4  out of memory, or a thread could not start";
 
 pub(crate) const BLOCKS: &str = "\
-Writes a folder into OUT for each hour that has a sample, also the last, unfinished one, and
-nothing else: a block that a server opens. OUT is a directory that is there. A block that stands in
-OUT already, byte for byte, is told and left, so a run that was cut short is run again. A crash
-leaves no half block: what was not finished stays as a folder that ends in .tmp, and you may
-remove it.
+Writes a folder into OUT for each hour that has a sample, and nothing else. The last hour, which
+may be unfinished, gets one too. OUT must exist. A server opens these blocks. A block that is
+already in OUT, byte for byte, is reported as `there` and left. After an interrupted run, run it
+again. After a crash each block is whole or not there. Unfinished folders end in .tmp, and you may
+remove them.
 
 Examples:
   prom_head blocks wal --out blocks
@@ -156,10 +164,11 @@ Exit status:
   4  out of memory, or a thread could not start";
 
 pub(crate) const RESCUE: &str = "\
-Reads all that can be read of the log, compressed or not, also behind damage, and writes it as
-blocks into OUT, as `blocks` does. Says what was read of each file, and what is lost. The log and
-its server's data stay as they are. Samples that the server has in blocks by now are left out: the
-least valid time is that of the blocks beside DIR, unless an option gives another.
+Reads all that can be read of the log, compressed or not, also after damage, and writes it into
+OUT as blocks, as `blocks` does. Reports what was read of each file, and what is lost. The log and
+its server's data are not changed. Samples that the server already has in blocks are left out: the
+least valid time is taken from the blocks in the directory that DIR is in, unless an option gives
+another.
 
 Stop the server first. Then rescue, move the blocks into its data directory, move the log away, and
 start the server.
@@ -176,7 +185,7 @@ Exit status:
   4  out of memory, or a thread could not start";
 
 pub(crate) const BLOCK: &str = "\
-Writes nothing.
+Writes nothing. Reads the whole block, and prints its name, its times, and how much it holds.
 
 Example:
   prom_head block blocks/01ARZ3NDEKTSV4RRFFQ69G5FAV
@@ -189,11 +198,15 @@ Exit status:
   4  out of memory";
 
 pub(crate) const APPEND: &str = "\
-Writes a new segment into DIR, one past the last. A row is a time in milliseconds, a value, and
-labels in the order of their names. A value is a whole number: the 64 bits that the log gets. A
-server takes these bits for a floating point number, and 8 for 4e-323: with --floats values are
-floating point numbers, and 8 is 8. Run it while no server has the log open. With a status other
-than 0 no row is in the log, unless standard output could not be written, or a file not removed.
+Writes a new segment into DIR, one past the last. Run it while no server has the log open. A row is
+a time in milliseconds, a value, and labels in the order of their names. With --floats a value is a
+floating point number. Without it a value is a whole number, the 64 bits that the log gets: a
+server reads 8 as 4e-323.
+
+Prints a line for each row. `accepted` rows are in the log. `stale` rows are not: out of order or
+duplicate timestamp (not a staleness marker). Nor are `expired` rows, which are before --min-valid.
+With a status other than 0 no row is in the log, unless standard output could not be written, or a
+file not removed.
 
 Example:
   printf '1700000000000 1 __name__=up job=node\\n' > rows
@@ -207,10 +220,13 @@ Exit status:
   4  out of memory, or a thread could not start";
 
 pub(crate) const CHECKPOINT: &str = "\
-Writes the folder checkpoint.NUMBER into DIR, and removes nothing. Run it while no server has
-the log open. What was not finished stays as checkpoint.NUMBER.tmp, and you may remove it.
-Without --keep-skipped, native histograms, exemplars and metadata are left out of the
-checkpoint.
+Writes the folder checkpoint.NUMBER into DIR, and removes nothing. Run it while no server has the
+log open. The checkpoint has all series, and the samples and deletions that --min-valid does not
+leave out. It has native histograms, exemplars and metadata only with --keep-skipped. An unfinished
+one stays as checkpoint.NUMBER.tmp, and you may remove it.
+
+Before a server starts on the log, make an empty segment after the checkpoint if there is none:
+`inspect` reports it.
 
 Example:
   prom_head checkpoint wal --min-valid 1700000000000
@@ -223,6 +239,7 @@ Exit status:
   4  out of memory";
 
 pub(crate) const PROGRAM: &str = "\
-DIR is the directory `wal` of a server, under its data directory, or a copy of it. `prom_head
-help COMMAND` says what a command writes, with an example and its exit statuses. If the server
-compresses its log, as it does by default, give the commands -z. If it does not start, `rescue`.";
+DIR is a server's directory `wal`, in its data directory, or a copy of it. A server compresses its
+log by default: `inspect`, `rescue` and `unpack` read such a log, and the other commands need -z,
+but for `append`, which refuses it. If a server does not start, see `prom_head help rescue`.
+`prom_head help COMMAND` says what a command writes, with an example and its exit statuses.";
