@@ -17,7 +17,7 @@ use std::alloc::Global;
 use std::thread::Threads;
 
 // At most so many hours are cut side by side.
-const MOST_HOURS: usize = 2;
+const MOST_HOURS: usize = 3;
 // The blocks that are in memory at once have about so many series together, unless it is one block.
 const MOST_SERIES: usize = 100_000;
 

@@ -2,7 +2,7 @@
 //! all that can be read of a log, which says besides what was read of each file and what is lost.
 //!
 //! The blocks have chunks that a server opens. An hour whose block stands in the directory already, byte for byte, is left: a run that was cut
-//! off is done again. In memory are the head and up to two blocks at a time, one where the head has many series.
+//! off is done again. In memory are the head and up to three blocks at a time, one where the head has many series.
 #![tactic(auto)]
 
 mod blocks;
