@@ -102,15 +102,18 @@ def functions(text, public):
 
 
 def trait_laws(text, public):
-    """Yields each function of a trait that a public type implements under laws of its own: its names in the traits that std has, and ours."""
+    """Yields each function of a trait that a public type implements under laws or clauses of its own: its names in the traits that std has, and
+    ours. `own` are the names of its clauses beyond the trait's."""
     for trait, of, body in re.findall(r"(?ms)^impl(?:<[^{]*?>)? ([\w:]+)[^{]*? for (\w+)[^{]*\{\n(.*?)^\}", text):
         laws = [it for it in re.findall(r"(?m)^    ghost (\w+) =", body) if it not in ("Value", "view", "invariant")]
-        if of in public and laws:
-            for name in re.findall(r"(?m)^    fn (\w+)", body):
-                function = Function(f"{of}::{name}", [])
-                function.of, function.trait = of, trait.split("::")[-1]
-                for law in laws:
-                    function.add("ensures", law, "")
+        for part in re.split(r"(?m)^    fn ", body)[1:] if of in public else []:
+            name = re.match(r"\w+", part)[0]
+            function = Function(f"{of}::{name}", [])
+            function.of, function.trait, function.laws = of, trait.split("::")[-1], laws
+            function.own = [it or UNNAMED for it in re.findall(r"(?m)^        ensures\b *(\w*)", part.split("\n    {")[0])]
+            for law in laws + function.own:
+                function.add("ensures", law, "")
+            if function.clauses:
                 yield function
 
 

@@ -5,15 +5,15 @@ use Rattle.std.specs.Path.{HasNoSlash, has_no_slash, path_join, slash}
 use Rattle.std.proofs.Common.{ap, subst, sym, ◌∙◌, arith, get_or}
 use Rattle.std.proofs.lemmas.Bool.{eqb-true, false≢true}
 use Rattle.std.proofs.lemmas.List.{length-take-le, take_more}
-use Rattle.block_text.specs.Sums.{Text}
+use Rattle.hw_bytes.specs.Sums.{Text}
 use Rattle.block_files.specs.Ulids.{IsUlid, is_digit}
 use Rattle.block_read.specs.declared.block.Block.{Block}
-use Rattle.prom_files.specs.Disk.{is_in}
-use Rattle.prom_files.specs.Folders.{AreInside, FileAt, is_inside}
-use Rattle.prom_files.specs.Targets.{IsName, zero_filled}
-use Rattle.prom_files.proofs.Digits.{both, filled_is_name}
-use Rattle.prom_files.proofs.Disks.{all_then}
-use Rattle.prom_files.proofs.Paths.{joined_in}
+use Rattle.store.specs.Disk.{is_in}
+use Rattle.new_files.specs.Folders.{AreInside, FileAt, is_inside}
+use Rattle.new_files.specs.Targets.{IsName, zero_filled}
+use Rattle.new_files.proofs.Digits.{both, filled_is_name}
+use Rattle.new_files.proofs.Disks.{all_then}
+use Rattle.new_files.proofs.Paths.{joined_in}
 use Rattle.block_commands.specs.Folders.{block_files, chunk_paths, chunks_in, named}
 
 -- ---- chunk files, up to one of them

@@ -1,19 +1,19 @@
 -- What was written is told, also where less is known of whether all went well.
 use Rattle.std.specs.Prelude.{ℕ, ◌≡◌, List}
 use Rattle.std.proofs.Common.{inl, inr}
-use Rattle.prom_store.specs.Calls.{Call}
-use Rattle.prom_store.specs.Found.{Found}
-use Rattle.prom_store.specs.declared.requests.BlockRequest.{BlockRequest}
-use Rattle.prom_store.specs.declared.requests.BlockRequest.TheVariants as asked
-use Rattle.prom_store.specs.declared.requests.CutRequest.{CutRequest}
+use Rattle.store.specs.Calls.{Call}
+use Rattle.store.specs.Found.{Found}
+use Rattle.answers.specs.declared.requests.BlockRequest.{BlockRequest}
+use Rattle.answers.specs.declared.requests.BlockRequest.TheVariants as asked
+use Rattle.answers.specs.declared.requests.CutRequest.{CutRequest}
 use Rattle.block_read.specs.declared.block.Block.{Block}
-use Rattle.prom_files.proofs.Safety.{for_less}
-use Rattle.prom_store.specs.Faults.{TellsDamage}
-use Rattle.prom_store.specs.Views.{View}
-use Rattle.prom_store.specs.declared.fault.Fault.{Fault}
-use Rattle.prom_store.specs.declared.fault.Status.TheVariants.{Damaged, Done}
-use Rattle.prom_commands.specs.declared.commands.Answer.{Answer}
-use Rattle.prom_commands.proofs.Answered.{nothing_told}
+use Rattle.new_files.proofs.Safety.{for_less}
+use Rattle.answers.specs.Faults.{TellsDamage}
+use Rattle.store.specs.Views.{View}
+use Rattle.answers.specs.declared.fault.Fault.{Fault}
+use Rattle.answers.specs.declared.fault.Status.TheVariants.{Damaged, Done}
+use Rattle.answers.specs.declared.answer.Answer.{Answer}
+use Rattle.answers.proofs.Answered.{nothing_told}
 use Rattle.block_commands.specs.Printed.{Prints, Refuses}
 use Rattle.block_commands.specs.Folders.{CarriesOut, Cuts, WritesBlock}
 

@@ -6,12 +6,12 @@ use Rattle.std.specs.Path.{path_join}
 use Rattle.std.proofs.Common.{ap, arith, subst, sym, ◌∙◌}
 use Rattle.std.proofs.lemmas.List.{map-append}
 use Rattle.std.proofs.lemmas.List.Elements.{All-from_recursion, recursion_from_All}
-use Rattle.block_text.specs.Sums.{Text}
+use Rattle.hw_bytes.specs.Sums.{Text}
 use Rattle.block_read.specs.declared.block.Block.{Block}
-use Rattle.prom_store.specs.Found.{Bytes, Found}
-use Rattle.prom_files.specs.Folders.{FileAt}
-use Rattle.prom_files.specs.Targets.{zero_filled}
-use Rattle.prom_files.proofs.Disks.{all_then}
+use Rattle.store.specs.Found.{Bytes, Found}
+use Rattle.new_files.specs.Folders.{FileAt}
+use Rattle.new_files.specs.Targets.{zero_filled}
+use Rattle.new_files.proofs.Disks.{all_then}
 use Rattle.block_commands.specs.Folders.{block_files, chunk_paths, chunks_in, named, numbered}
 
 -- one path more

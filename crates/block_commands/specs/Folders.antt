@@ -1,23 +1,23 @@
 -- The folder of a block, and what a crash leaves where it is written.
 use Rattle.std.specs.Prelude.{◌≡◌, ◌⊎◌, ℕ, zero, suc, ◌+◌, All, List, [], ◌∷◌, ◌++◌, Option, codes}
 use Rattle.std.specs.Path.{path_join}
-use Rattle.prom_store.specs.Calls.{Call}
-use Rattle.prom_store.specs.Found.{Found}
-use Rattle.prom_store.specs.Views.{View, view_of}
-use Rattle.prom_store.specs.declared.requests.BlockRequest.{BlockRequest}
-use Rattle.prom_store.specs.declared.requests.BlockRequest.TheVariants as asked
-use Rattle.prom_store.specs.declared.requests.CutRequest.{CutRequest}
+use Rattle.store.specs.Calls.{Call}
+use Rattle.store.specs.Found.{Found}
+use Rattle.store.specs.Views.{View, view_of}
+use Rattle.store.specs.Disk.{File, Standing}
+use Rattle.answers.specs.declared.requests.BlockRequest.{BlockRequest}
+use Rattle.answers.specs.declared.requests.BlockRequest.TheVariants as asked
+use Rattle.answers.specs.declared.requests.CutRequest.{CutRequest}
 use Rattle.wal_log.specs.Inputs.{Files}
 use Rattle.block_cut.specs.Logs.{IsBlockOfLog}
 use Rattle.block_read.specs.declared.block.Block.{Block}
-use Rattle.block_text.specs.Sums.{Text}
-use Rattle.prom_files.specs.Crashes.{IsCrashSafe}
-use Rattle.prom_files.specs.Disk.{File, Standing}
-use Rattle.prom_files.specs.Folders.{FileAt, LeavesFolder, LeavesOldOrFolder}
-use Rattle.prom_files.specs.Targets.{unfinished_of, zero_filled}
-use Rattle.prom_store.specs.declared.damage.Flaw.{Flaw}
-use Rattle.log_source.specs.Sources.{IsSourceIn}
-use Rattle.prom_commands.specs.Answers.{IsNoDamage}
+use Rattle.hw_bytes.specs.Sums.{Text}
+use Rattle.new_files.specs.Crashes.{IsCrashSafe}
+use Rattle.new_files.specs.Folders.{FileAt, LeavesFolder, LeavesOldOrFolder}
+use Rattle.new_files.specs.Targets.{unfinished_of, zero_filled}
+use Rattle.answers.specs.declared.damage.Flaw.{Flaw}
+use Rattle.log_directory.specs.Sources.{IsSourceIn}
+use Rattle.answers.specs.Answers.{IsNoDamage}
 
 -- the file of this name in a directory
 abbrev pub named : List ℕ → List ℕ → List ℕ → FileAt

@@ -1,7 +1,7 @@
 -- The names that are made for blocks.
 use Rattle.std.specs.Prelude.{ℕ, ◌+◌, ◌-◌, ◌*◌, ◌/◌, ◌%◌, ◌^◌, get_or, map, codes}
 use Rattle.std.specs.List.{range_with_len}
-use Rattle.block_text.specs.Sums.{Text}
+use Rattle.hw_bytes.specs.Sums.{Text}
 
 -- the digits of Crockford's base 32
 abbrev pub alphabet : Text

@@ -5,16 +5,16 @@ use Rattle.std.specs.List.{flat_map}
 use Rattle.head_column.specs.Hours.{hour_start}
 use Rattle.head_core.specs.Content.{Content}
 use Rattle.block_cut.specs.Ranges.{Ascends, IsRange}
-use Rattle.prom_store.specs.Faults.{TellsNoDamage}
-use Rattle.prom_store.specs.Views.{View}
-use Rattle.prom_store.specs.declared.damage.Flaw.{Flaw}
-use Rattle.prom_store.specs.declared.requests.LogForm.{LogForm}
-use Rattle.prom_store.specs.declared.fault.Fault.{Fault}
-use Rattle.prom_store.specs.declared.requests.BlockRequest.{BlockRequest}
-use Rattle.prom_store.specs.declared.requests.BlockRequest.TheVariants as asked
-use Rattle.prom_commands.specs.declared.commands.Answer.{Answer}
-use Rattle.prom_commands.specs.Answers.{TellsUpTo}
-use Rattle.prom_commands.specs.Replays.{IsReplayIn}
+use Rattle.answers.specs.Faults.{TellsNoDamage}
+use Rattle.store.specs.Views.{View}
+use Rattle.answers.specs.declared.damage.Flaw.{Flaw}
+use Rattle.answers.specs.declared.requests.LogForm.{LogForm}
+use Rattle.answers.specs.declared.fault.Fault.{Fault}
+use Rattle.answers.specs.declared.requests.BlockRequest.{BlockRequest}
+use Rattle.answers.specs.declared.requests.BlockRequest.TheVariants as asked
+use Rattle.answers.specs.declared.answer.Answer.{Answer}
+use Rattle.answers.specs.Answers.{TellsUpTo}
+use Rattle.log_directory.specs.Replays.{IsReplayIn}
 
 -- an hour: its number, its first millisecond and the first one after it
 abbrev pub range_line : ℤ → List ℕ

@@ -2,10 +2,10 @@
 
 use crate::parts::read_parts;
 use crate::report::block_text;
+use answers::{Answer, Fault, Status};
 use block_read::{Block, read_any_block};
-use prom_commands::Answer;
-use prom_store::{Fault, Status, Store};
 use std::alloc::Global;
+use store::Store;
 
 // Prints what the block of these parts holds.
 fn told(alloc: Global, parts: &Block) -> Result<Answer, Fault> {

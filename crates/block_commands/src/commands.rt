@@ -1,18 +1,19 @@
 //! The commands about blocks.
 
 ghost use Rattle.std.specs.Prelude.{◌≡◌, IsOk, MatchResult};
-ghost use Rattle.prom_store.specs.Views.{view_of};
+ghost use Rattle.store.specs.Views.{view_of};
 ghost use Rattle.block_commands.specs.Folders.{CarriesOut};
 ghost use Rattle.block_commands.specs.Printed.{Prints, Refuses};
 
 use crate::blocks::block;
 use crate::cutting::cut_hour;
 use crate::ranges::ranges;
-use prom_commands::{Answer, Progress};
-use prom_store::{BlockRequest, Fault, Status, Store};
+use answers::{Answer, BlockRequest, Fault, Status};
+use progress::Progress;
 use std::alloc::Global;
 use std::sync::Wait;
 use std::thread::Threads;
+use store::Store;
 
 fn execute<R: Threads + Wait + Sync, S: Store, P: Progress + Sync>(
     rt: &R,

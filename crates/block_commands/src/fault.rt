@@ -2,8 +2,8 @@
 
 ghost use Rattle.std.specs.Prelude.{◌≡◌, ◌↔◌};
 
+use answers::Fault;
 use block_cut::CutFault;
-use prom_store::Fault;
 
 /// Converts the fault of a cut to the program's fault.
 pub fn of_cut(fault: CutFault) -> Fault

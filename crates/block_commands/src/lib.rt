@@ -6,17 +6,15 @@ mod blocks;
 mod commands;
 mod cutting;
 mod fault;
-mod laws;
 mod names;
 mod parts;
 mod ranges;
 mod report;
 mod writing;
 
+pub use answers::{BlockRequest, CutRequest};
 pub use commands::carry_out_block;
 pub use fault::of_cut;
-pub use laws::{checkpoint_equivalence, however_dealt, no_limit};
 pub use names::new_name;
 pub use parts::read_parts;
-pub use prom_store::{BlockRequest, CutRequest};
 pub use writing::write_block;

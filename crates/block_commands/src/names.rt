@@ -18,7 +18,7 @@ fn digit(number: u128, place: u32) -> u8
 }
 
 /// Returns a ULID for a new block, made of a time in milliseconds since 1970, of which 48 bits count, and a random number, of which 80 bits
-/// count. The time stands first.
+/// count. The time is first.
 pub fn new_name(alloc: Global, millis: u64, random: u128) -> Result<Vec<u8>, AllocError>
     ensures { IfOk result (λ name. name.items ≡ made_name millis random) }
 {

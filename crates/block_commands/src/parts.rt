@@ -1,15 +1,16 @@
 //! Reading the parts of a block from a folder.
 
 ghost use Rattle.std.specs.Prelude.{◌≡◌, All, IfOk, map, string_bytes};
-ghost use Rattle.prom_store.specs.Found.{Bytes};
+ghost use Rattle.store.specs.Found.{Bytes};
 ghost use Rattle.block_commands.specs.Folders.{block_files, chunk_paths, chunks_in, numbered};
 
+use answers::Fault;
 use block_read::Block;
 use hw_bytes::Items;
-use log_source::{names_in, read_in, read_paths};
-use prom_files::six_digits;
-use prom_store::{Fault, Store, join};
+use log_directory::{names_in, read_in, read_paths};
+use new_files::six_digits;
 use std::alloc::{AllocError, Global};
+use store::{Store, join};
 
 // Returns whether this is the name of one of the first `most` chunk files.
 fn is_chunk_name(alloc: Global, name: &str, most: u64) -> Result<bool, AllocError> {

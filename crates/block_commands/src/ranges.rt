@@ -3,19 +3,21 @@
 ghost use Rattle.std.specs.Prelude.{◌≡◌, ◌↔◌, ℤ, Contains, List, MatchResult, false};
 ghost use Rattle.std.specs.List.{flat_map};
 ghost use Rattle.block_cut.specs.Ranges.{Ascends, IsRange};
-ghost use Rattle.prom_store.specs.Faults.{TellsNoDamage};
-ghost use Rattle.prom_store.specs.Views.{view_of};
-ghost use Rattle.prom_commands.specs.Answers.{TellsUpTo};
+ghost use Rattle.answers.specs.Faults.{TellsNoDamage};
+ghost use Rattle.store.specs.Views.{view_of};
+ghost use Rattle.answers.specs.Answers.{TellsUpTo};
 ghost use Rattle.block_commands.specs.Printed.{IsRangesText, range_line};
 
 use crate::report::ranges_text;
+use answers::{Answer, Fault, LogForm};
 use block_cut::full_ranges;
 use head_replay::Options;
-use prom_commands::{Answer, Progress, ReplayedLog, replay_in};
-use prom_store::{Fault, LogForm, Store};
+use log_directory::{ReplayedLog, replay_in};
+use progress::Progress;
 use std::alloc::Global;
 use std::sync::Wait;
 use std::thread::Threads;
+use store::Store;
 
 // Prints the full hours of a replayed log, one a line.
 fn listed(alloc: Global, replayed: &ReplayedLog) -> Result<Answer, Fault>

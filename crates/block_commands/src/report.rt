@@ -4,16 +4,15 @@ ghost use Rattle.std.specs.Prelude.{◌≡◌, ◌++◌, IfOk, OnOk, string_byte
 ghost use Rattle.std.specs.List.{flat_map};
 ghost use Rattle.block_commands.specs.Printed.{range_line};
 
-use block_read::{BlockRows, Encoding};
+use block_read::{BlockCounts, BlockRows, Encoding, counts_of};
 use head_column::Hour;
-use prom_figures::{BlockCounts, counts_of, ends};
 use std::alloc::{AllocError, Global};
 
 // Appends the line of an hour: its number, its first millisecond and the first one after it.
 fn push_range(text: &mut String, hour: Hour) -> Result<(), AllocError>
     ensures { OnOk result (string_bytes text.new ≡ string_bytes text.old ++ range_line hour) }
 {
-    let (number, (start, end)) = (hour.k(), ends(hour));
+    let (number, (start, end)) = (hour.k(), hour.bounds());
     writeln!(text, "{number} {start} {end}")
 }
 
@@ -44,7 +43,7 @@ pub fn block_text(
     block: &BlockRows,
 ) -> Result<String, AllocError> {
     let counts = counts_of(block.rows.as_slice());
-    let (start, end) = ends(block.hour);
+    let (start, end) = block.hour.bounds();
     let mut text = format!(in alloc; "ulid {}\nrange {start} {end}\n", block.ulid)?;
     push_counts(&mut text, &counts)?;
     writeln!(text, "hidden {}", counts.hidden)?;

@@ -6,9 +6,9 @@ use Rattle.std.proofs.lemmas.List.{length-append, length-map, take_at}
 use Rattle.std.proofs.lemmas.List.Elements.{All-append, All-cons, All-nil}
 use Rattle.hw_bytes.proofs.Lists.{along-push, map_push}
 use Rattle.head_column.specs.declared.chunk.Chunk.{Chunk}
-use Rattle.block_text.specs.Sums.{Text}
-use Rattle.index_parts.specs.declared.row.ChunkMeta.{ChunkMeta}
-use Rattle.index_parts.specs.Rows.{FitsChunk}
+use Rattle.hw_bytes.specs.Sums.{Text}
+use Rattle.index_text.specs.declared.row.ChunkMeta.{ChunkMeta}
+use Rattle.index_text.specs.Rows.{FitsChunk}
 use Rattle.block_files.specs.declared.encoding.Encoding.{Encoding}
 use Rattle.block_files.specs.Files.{AreShort, Written, all_texts, chunk_files, longest_chunk, references, row_references, row_texts, texts}
 use Rattle.block_files.proofs.RowLaws.{along_count, flat, row_short, rows_large}

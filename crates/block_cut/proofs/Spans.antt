@@ -10,7 +10,7 @@ use Rattle.head_column.specs.declared.chunk.Chunk.{Chunk}
 use Rattle.head_column.specs.Chunks.{AreFull, chunk_samples, first_time, last_time, parts}
 use Rattle.head_column.specs.Samples.{Rises}
 use Rattle.head_column.proofs.Parts.{parts_are}
-use Rattle.index_parts.specs.Rows.{IsChain}
+use Rattle.index_text.specs.Rows.{IsChain}
 use Rattle.block_files.specs.declared.encoding.Encoding.{Encoding}
 use Rattle.block_read.specs.Blocks.{chunk_in, chunks_in}
 

@@ -13,12 +13,12 @@ use Rattle.head_column.specs.declared.items.Run.{Run}
 use Rattle.head_column.specs.declared.items.Sample.{Sample}
 use Rattle.head_column.specs.declared.chunk.Chunk.{Chunk}
 use Rattle.head_column.specs.Chunks.{chunk_samples, parts}
-use Rattle.block_text.specs.declared.fault.WriteFault.{WriteFault}
-use Rattle.block_text.specs.declared.fault.WriteFault.TheVariants.{TooLarge, Memory}
-use Rattle.block_text.specs.Sums.{Text}
-use Rattle.index_parts.specs.declared.row.ChunkMeta.{ChunkMeta}
-use Rattle.index_parts.specs.declared.row.IndexRow.{IndexRow}
-use Rattle.index_parts.specs.Rows.{AreRows, FitsChunk, FitsIndex, IsChain, IsRow}
+use Rattle.hw_bytes.specs.declared.write_fault.WriteFault.{WriteFault}
+use Rattle.hw_bytes.specs.declared.write_fault.WriteFault.TheVariants.{TooLarge, Memory}
+use Rattle.hw_bytes.specs.Sums.{Text}
+use Rattle.index_text.specs.declared.row.ChunkMeta.{ChunkMeta}
+use Rattle.index_text.specs.declared.row.IndexRow.{IndexRow}
+use Rattle.index_text.specs.Rows.{AreRows, FitsChunk, FitsIndex, IsChain, IsRow}
 use Rattle.block_files.specs.declared.meta.Meta.{Meta}
 use Rattle.block_files.specs.declared.encoding.Encoding.{Encoding}
 use Rattle.block_files.specs.Files.{references, row_references, texts}

@@ -9,9 +9,9 @@ use Rattle.head_column.specs.declared.items.Sample.{Sample}
 use Rattle.head_column.specs.Hours.{IsEdge, is_in_hour}
 use Rattle.head_core.specs.Content.{Content}
 use Rattle.head_core.specs.Heads.{history_at}
-use Rattle.index_parts.specs.declared.row.ChunkMeta.{ChunkMeta}
-use Rattle.index_parts.specs.declared.row.IndexRow.{IndexRow}
-use Rattle.index_parts.specs.Rows.{IsChain}
+use Rattle.index_text.specs.declared.row.ChunkMeta.{ChunkMeta}
+use Rattle.index_text.specs.declared.row.IndexRow.{IndexRow}
+use Rattle.index_text.specs.Rows.{IsChain}
 use Rattle.block_files.specs.declared.encoding.Encoding.{Encoding}
 use Rattle.block_files.specs.declared.tombstones.Tombstone.{Tombstone}
 use Rattle.block_files.specs.Files.{references, texts}

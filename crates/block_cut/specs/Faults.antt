@@ -1,6 +1,6 @@
 -- The error of a cut for an error of writing.
-use Rattle.block_text.specs.declared.fault.WriteFault.{WriteFault}
-use Rattle.block_text.specs.declared.fault.WriteFault.TheVariants as write
+use Rattle.hw_bytes.specs.declared.write_fault.WriteFault.{WriteFault}
+use Rattle.hw_bytes.specs.declared.write_fault.WriteFault.TheVariants as write
 use Rattle.block_cut.specs.declared.fault.CutFault.{CutFault}
 use Rattle.block_cut.specs.declared.fault.CutFault.TheVariants.{TooLarge, Memory}
 

@@ -6,7 +6,7 @@ use Rattle.wal_log.specs.declared.reading.Placed.{Placed}
 use Rattle.wal_log.specs.Log.{IsReading, contents}
 use Rattle.head_resolver.specs.Taken.{taken_of}
 use Rattle.head_core.specs.Content.{Content, IsContentOf}
-use Rattle.block_text.specs.Sums.{Text}
+use Rattle.hw_bytes.specs.Sums.{Text}
 use Rattle.block_files.specs.declared.encoding.Encoding.{Encoding}
 use Rattle.block_read.specs.declared.block.Block.{Block}
 use Rattle.hour_rows.specs.Rows.{rows_of}

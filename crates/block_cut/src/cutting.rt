@@ -2,7 +2,7 @@
 
 ghost use Rattle.std.specs.Prelude.{◌≡◌, ◌↔◌, ◌<◌, ◌<ℤ◌, ◌^◌, [], false, Err, IfOk, IsTrue, length};
 ghost use Rattle.head_column.specs.Hours.{IsEdge};
-ghost use Rattle.index_parts.specs.Rows.{FitsIndex};
+ghost use Rattle.index_text.specs.Rows.{FitsIndex};
 ghost use Rattle.block_files.specs.declared.encoding.Encoding.TheVariants.{Raw};
 ghost use Rattle.block_cut.specs.Cutting.{is_full_in};
 ghost use Rattle.block_cut.specs.Ranges.{IsFull};

@@ -1,6 +1,6 @@
 //! The error of cutting an hour.
 
-use block_text::WriteFault;
+use hw_bytes::WriteFault;
 use std::alloc::{AllocError, AllocFailed};
 use std::error::Error;
 use std::fmt;

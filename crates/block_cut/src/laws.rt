@@ -10,7 +10,7 @@ ghost use Rattle.head_column.specs.Histories.{History};
 ghost use Rattle.head_column.specs.Hours.{IsEdge, is_in_hour};
 ghost use Rattle.head_resolver.specs.Taken.{taken_of};
 ghost use Rattle.head_core.specs.Content.{Content, IsContentOf};
-ghost use Rattle.block_text.specs.Sums.{Text};
+ghost use Rattle.hw_bytes.specs.Sums.{Text};
 ghost use Rattle.block_files.specs.declared.encoding.Encoding.{Encoding};
 ghost use Rattle.block_read.specs.declared.block.Block.{Block as Parts};
 ghost use Rattle.block_read.specs.Blocks.{IsBlockOf};

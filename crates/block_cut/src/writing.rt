@@ -4,8 +4,8 @@ ghost use Rattle.std.specs.Prelude.{◌≡◌, ◌≤◌, ◌<◌, ◌^◌, ◌+
 ghost use Rattle.std.specs.List.{sum_by, zip};
 ghost use Rattle.std.specs.Io.Iter.{u64_saturate};
 ghost use Rattle.head_column.specs.Hours.{IsEdge};
-ghost use Rattle.index_parts.specs.Index.{index_text, series_ids};
-ghost use Rattle.index_parts.specs.Rows.{AreRows, FitsChunk, FitsIndex};
+ghost use Rattle.index_text.specs.Index.{index_text, series_ids};
+ghost use Rattle.index_text.specs.Rows.{AreRows, FitsChunk, FitsIndex};
 ghost use Rattle.block_files.specs.Files.{AreShort, all_texts, chunk_files};
 ghost use Rattle.block_files.specs.Tombstones.{tombstones_text};
 ghost use Rattle.block_read.specs.declared.rows.BlockRow.{BlockRow as Row};
@@ -18,10 +18,9 @@ use block_files::{
 };
 use block_index::{ChunkMeta, IndexRow, NumberedIndex, few_chunks, write_numbered_index};
 use block_read::Block;
-use block_text::WriteFault;
 use head_column::{Chunk, Hour, Run};
 use hour_rows::{CutRow, end_of, first_of};
-use hw_bytes::Items;
+use hw_bytes::{Items, WriteFault};
 use std::alloc::{AllocError, Global};
 use wal_record::LabelSet;
 use xor_chunk::short_chunk;

@@ -13,7 +13,7 @@ use Rattle.hw_bytes.proofs.Division.{crc32c_fits}
 use Rattle.hw_bytes.proofs.Fixed.{fixed_code}
 use Rattle.hw_bytes.proofs.Groups.{uvarint_code}
 use Rattle.std.proofs.Common.{lit<}
-use Rattle.block_text.specs.Sums.{Text, sum_text}
+use Rattle.hw_bytes.specs.Sums.{Text, sum_text}
 use Rattle.block_files.specs.declared.encoding.Encoding.{Encoding}
 use Rattle.block_files.specs.declared.encoding.Encoding.TheVariants.{Raw, Xor}
 use Rattle.block_files.specs.Files.{BeginsWith, StandsAt, encoding_byte}

@@ -3,7 +3,7 @@ use Rattle.std.proofs.Common.{◌≡◌, ℕ, ◌+◌, ◌-◌, ◌*◌, ◌<◌
 use Rattle.std.proofs.lemmas.List.{length-append}
 use Rattle.std.proofs.lemmas.Bool.{cases_lt, le-leb, lt-leb}
 use Rattle.hw_bytes.specs.Writing.{uvarint}
-use Rattle.block_text.specs.Sums.{Text, sum_text}
+use Rattle.hw_bytes.specs.Sums.{Text, sum_text}
 use Rattle.block_files.specs.declared.encoding.Encoding.{Encoding}
 use Rattle.block_files.specs.Files.{chunk_element, encoding_byte, file_head, with_chunk, with_last, last_length, last_reference}
 

@@ -7,7 +7,7 @@ use Rattle.std.proofs.lemmas.List.Elements.{All-head, All-tail}
 use Rattle.std.proofs.lemmas.List.Sums.{fold-append}
 use Rattle.hw_bytes.specs.Writing.{uvarint}
 use Rattle.hw_bytes.proofs.Shortest.{uvarint_shortest}
-use Rattle.block_text.specs.Sums.{Text}
+use Rattle.hw_bytes.specs.Sums.{Text}
 use Rattle.block_files.specs.declared.encoding.Encoding.{Encoding}
 use Rattle.block_files.specs.Files.{BeginsWith, StandsAt, chunk_element, chunk_files, file_head, last_reference, longest_chunk, reference_behind, with_chunk}
 use Rattle.block_files.proofs.FileLaws.{goes_behind, begins_another, begins_first, last_reference_at}

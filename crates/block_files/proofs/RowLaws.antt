@@ -7,7 +7,7 @@ use Rattle.std.proofs.lemmas.List.Sums.{fold-append}
 use Rattle.std.proofs.lemmas.Grind.{flat_map-append}
 use Rattle.hw_bytes.specs.Lists.{along}
 use Rattle.hw_bytes.proofs.Lists.{along-push, flat_map-push, fold-push, map_push}
-use Rattle.block_text.specs.Sums.{Text}
+use Rattle.hw_bytes.specs.Sums.{Text}
 use Rattle.head_column.specs.declared.chunk.Chunk.{Chunk}
 use Rattle.block_files.specs.declared.encoding.Encoding.{Encoding}
 use Rattle.block_files.specs.Files.{Written, chunk_element, chunk_files, last_reference, longest_chunk, reference_behind, references, row_references, row_texts, texts, with_chunk}

@@ -8,8 +8,8 @@ use Rattle.std.proofs.lemmas.List.Elements.{All-append, All-cons, All-head, All-
 use Rattle.hw_bytes.specs.Writing.{uvarint, varint}
 use Rattle.hw_bytes.proofs.Groups.{uvarint_code}
 use Rattle.hw_bytes.proofs.Shortest.{uvarint_shortest}
-use Rattle.block_text.specs.Sums.{sum_text}
-use Rattle.block_text.proofs.SumLaws.{sum_length}
+use Rattle.hw_bytes.specs.Sums.{sum_text}
+use Rattle.hw_bytes.proofs.SumLaws.{sum_length}
 use Rattle.block_files.specs.declared.tombstones.Tombstone.{Tombstone}
 use Rattle.block_files.specs.Tombstones.{IsFit, entry_text, entries_text, tombstones_text}
 

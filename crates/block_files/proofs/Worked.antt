@@ -4,7 +4,7 @@ use Rattle.std.specs.Prelude.{codes, pos, replicate}
 use Rattle.std.specs.Fmt.{digits}
 use Rattle.hw_bytes.specs.Checksum.{crc32c, divided, divided_times}
 use Rattle.hw_bytes.specs.Writing.{uvarint, uvarint_in}
-use Rattle.block_text.specs.Sums.{Text, sum_text}
+use Rattle.hw_bytes.specs.Sums.{Text, sum_text}
 use Rattle.block_files.specs.declared.encoding.Encoding.TheVariants.{Raw, Xor}
 use Rattle.block_files.specs.Files.{chunk_files, references, reference_behind, with_chunk}
 use Rattle.block_files.specs.Meta.{meta_text}

@@ -4,7 +4,7 @@ use Rattle.std.specs.List.{fold, flat_map}
 use Rattle.hw_bytes.specs.Lists.{along}
 use Rattle.hw_bytes.specs.Writing.{uvarint}
 use Rattle.hw_bytes.specs.Numbers.{IsUvarint}
-use Rattle.block_text.specs.Sums.{Text, sum_text}
+use Rattle.hw_bytes.specs.Sums.{Text, sum_text}
 use Rattle.head_column.specs.declared.chunk.Chunk.{Chunk}
 use Rattle.block_files.specs.declared.encoding.Encoding.{Encoding}
 use Rattle.block_files.specs.declared.encoding.Encoding.TheVariants.{Raw, Xor}

@@ -1,6 +1,6 @@
 -- The meta.json of a block.
 use Rattle.std.specs.Prelude.{ℕ, ℤ, pos, [], ◌∷◌, ◌++◌, replicate, unsigned_abs, int_lt, if◌then◌else◌, codes, decimal}
-use Rattle.block_text.specs.Sums.{Text}
+use Rattle.hw_bytes.specs.Sums.{Text}
 use Rattle.block_files.specs.declared.meta.Meta.{Meta}
 
 -- a signed number in decimal digits, with a minus sign if it is negative

@@ -3,7 +3,7 @@ use Rattle.std.specs.Prelude.{◌<◌, ◌^◌, List, [], ◌∷◌, ◌++◌, F
 use Rattle.std.specs.List.{flat_map}
 use Rattle.std.specs.Int.{w64}
 use Rattle.hw_bytes.specs.Writing.{uvarint, varint}
-use Rattle.block_text.specs.Sums.{Text, sum_text}
+use Rattle.hw_bytes.specs.Sums.{Text, sum_text}
 use Rattle.block_files.specs.declared.tombstones.Tombstone.{Tombstone}
 
 -- an entry: the id of the series as a uvarint, the first and the last hidden time as varints

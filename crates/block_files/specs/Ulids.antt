@@ -1,6 +1,6 @@
 -- The names of blocks.
 use Rattle.std.specs.Prelude.{◌≡◌, ℕ, ◌≤◌, Bool, ◌&&◌, ◌||◌, not, nat_le, ◌==◌, [], ◌∷◌, length, All, IsTrue}
-use Rattle.block_text.specs.Sums.{Text}
+use Rattle.hw_bytes.specs.Sums.{Text}
 
 -- a digit of Crockford's base 32: 0 to 9 and A to Z without I, L, O and U
 abbrev pub is_digit : ℕ → Bool

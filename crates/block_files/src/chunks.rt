@@ -2,15 +2,14 @@
 
 ghost use Rattle.std.specs.Prelude.{◌≡◌, ◌≤◌, ◌<◌, ◌+◌, ◌*◌, ◌^◌, ◌++◌, ◌∷◌, [], List, All, map, ◌↔◌, IsTrue, Err, IfOk, OnErr, OnOk, length};
 ghost use Rattle.std.specs.List.{flat_map};
-ghost use Rattle.block_text.specs.Sums.{Text};
+ghost use Rattle.hw_bytes.specs.Sums.{Text};
 ghost use Rattle.head_column.specs.declared.chunk.Chunk.{Chunk as ChunkOfRow};
 ghost use Rattle.hw_bytes.specs.Writing.{uvarint};
 ghost use Rattle.block_files.specs.Files.{AreShort, all_texts, chunk_element, chunk_files, file_head, last_reference, longest_chunk, references, row_references, texts, with_chunk, with_last};
 
 use crate::encoding::{Encoding, byte_of};
-use block_text::WriteFault;
 use head_column::Chunk;
-use hw_bytes::{Items, crc32c, put_be32, put_uvarint};
+use hw_bytes::{Items, WriteFault, crc32c, put_be32, put_uvarint};
 use std::alloc::{AllocError, Global};
 use std::marker::Model;
 
@@ -24,7 +23,7 @@ const HEAD: [u8; 8] = [0x85, 0xBD, 0x40, 0xDD, 1, 0, 0, 0];
 const MOST_FILES: usize = 0x1_0000_0000;
 
 // Returns how many bytes a chunk with these data takes in its file.
-#[tactic(auto, unfolding(hw_bytes::specs::Writing::uvarint, hw_bytes::specs::Writing::uvarint_in, block_text::specs::Sums::sum_text))]
+#[tactic(auto, unfolding(hw_bytes::specs::Writing::uvarint, hw_bytes::specs::Writing::uvarint_in, hw_bytes::specs::Sums::sum_text))]
 fn chunk_len(encoding: Encoding, data: &[u8]) -> usize
     requires { length «data».now ≤ longest_chunk }
     ensures { result ≡ length (chunk_element encoding «data».now) }
@@ -34,7 +33,7 @@ fn chunk_len(encoding: Encoding, data: &[u8]) -> usize
 }
 
 // Appends a chunk to its file.
-#[tactic(auto, unfolding(block_text::specs::Sums::sum_text))]
+#[tactic(auto, unfolding(hw_bytes::specs::Sums::sum_text))]
 fn put_chunk(encoding: Encoding, file: &mut Vec<u8>, data: &[u8]) -> Result<(), AllocError>
     ensures put { OnOk result (file.new.items ≡ file.old.items ++ chunk_element encoding «data».now) }
     ensures kept { OnErr result (length file.old.items ≤ length file.new.items) }

@@ -2,7 +2,7 @@
 
 ghost use Rattle.std.specs.Prelude.{◌≡◌, ◌<◌, ◌^◌, ◌++◌, ℕ, ℤ, length, FitsSigned, IfSome, MatchOption};
 ghost use Rattle.std.specs.Int.{w64};
-ghost use Rattle.block_text.specs.Sums.{Text};
+ghost use Rattle.hw_bytes.specs.Sums.{Text};
 ghost use Rattle.hw_bytes.specs.Writing.{uvarint, varint};
 
 use hw_bytes::{uvarint_at, varint_at};

@@ -2,15 +2,14 @@
 
 ghost use Rattle.std.specs.Prelude.{◌≡◌, ◌≤◌, ◌<◌, ◌^◌, ◌++◌, ◌∷◌, [], List, All, map, Err, IfOk, OnOk, length};
 ghost use Rattle.std.specs.List.{flat_map};
-ghost use Rattle.block_text.specs.Sums.{Text};
+ghost use Rattle.hw_bytes.specs.Sums.{Text};
 ghost use Rattle.block_files.specs.declared.encoding.Encoding.TheVariants.{Raw};
 ghost use Rattle.block_files.specs.Files.{AreShort, all_texts, chunk_files, last_reference, longest_chunk, references, row_references, row_texts, texts, with_chunk};
 
 use crate::chunks::add_chunk;
 use crate::encoding::Encoding;
-use block_text::WriteFault;
 use head_column::Chunk;
-use hw_bytes::Items;
+use hw_bytes::{Items, WriteFault};
 use std::alloc::{AllocError, Global};
 use std::marker::Model;
 

@@ -1,7 +1,7 @@
 //! Reading a chunk by its reference.
 
 ghost use Rattle.std.specs.Prelude.{◌≡◌, IfSome, IfNone};
-ghost use Rattle.block_text.specs.Sums.{Text};
+ghost use Rattle.hw_bytes.specs.Sums.{Text};
 ghost use Rattle.block_files.specs.declared.encoding.Encoding.{Encoding as EncodingOf};
 ghost use Rattle.block_files.specs.Files.{BeginsWith, StandsAt, encoding_byte};
 

@@ -1,7 +1,7 @@
 //! Laws of the definitions.
 
 ghost use Rattle.std.specs.Prelude.{◌≡◌, ◌≤◌, ◌<◌, ◌^◌, ◌++◌, ◌∷◌, ℕ, List, All, length};
-ghost use Rattle.block_text.specs.Sums.{Text};
+ghost use Rattle.hw_bytes.specs.Sums.{Text};
 ghost use Rattle.block_files.specs.declared.encoding.Encoding.{Encoding};
 ghost use Rattle.block_files.specs.Files.{StandsAt, chunk_files, longest_chunk, reference_behind};
 

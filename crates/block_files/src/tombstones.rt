@@ -1,14 +1,13 @@
 //! Writing and reading tombstones (tombstones.md of the public standard).
 
 ghost use Rattle.std.specs.Prelude.{◌≡◌, ◌<◌, ◌++◌, List, All, length, Err, IfOk, IfSome, MatchOption, OnOk};
-ghost use Rattle.block_text.specs.Sums.{Text};
+ghost use Rattle.hw_bytes.specs.Sums.{Text};
 ghost use Rattle.block_files.specs.declared.tombstones.Tombstone.{Tombstone as Entry};
 ghost use Rattle.block_files.specs.Tombstones.{IsFit, entries_text, entry_text, tombstones_text};
 
 use crate::fields::{front_uvarint, front_varint};
-use block_text::put_sum;
 use head_column::Run;
-use hw_bytes::{put_uvarint, put_varint};
+use hw_bytes::{put_sum, put_uvarint, put_varint};
 use std::alloc::{AllocError, AllocFailed, Global};
 use std::error::Error;
 use std::fmt;

@@ -33,7 +33,7 @@ impl fmt::Display for BadUlid {
 impl Error for BadUlid {}
 
 impl Model for Ulid {
-    ghost use Rattle.block_text.specs.Sums.{Text};
+    ghost use Rattle.hw_bytes.specs.Sums.{Text};
     ghost use Rattle.block_files.specs.Ulids.{IsUlid};
 
     ghost Value = { Text };

@@ -2,17 +2,17 @@
 use Rattle.std.proofs.Common.{◌≡◌, ◌⊎◌, inl, inr, ◌<◌, ◌^◌, ℕ, List, length, map, Result, Ok, Err, refl, sym, subst}
 use Rattle.std.specs.Prelude.{IfErr, IfOk}
 use Rattle.hw_bytes.specs.Spellings.{IsBytes}
-use Rattle.index_parts.specs.declared.fault.ReadFault.{ReadFault}
-use Rattle.index_parts.specs.declared.fault.ReadFault.TheVariants as faults
-use Rattle.index_parts.specs.declared.row.IndexRow.{IndexRow}
-use Rattle.index_parts.specs.Fields.{Stored}
-use Rattle.index_parts.specs.Gives.{Fails}
-use Rattle.index_parts.specs.Layout.{Text}
-use Rattle.index_parts.specs.Reading.{Answers, row_of, rows_in, stored_in}
-use Rattle.index_parts.specs.Rows.{IsIndex}
-use Rattle.index_parts.proofs.Early.{stored-early}
-use Rattle.index_parts.proofs.ReadLaws.{ReadsAgain, one_index, refuses_none}
-use Rattle.index_parts.proofs.RowsAgain.{rows_again}
+use Rattle.index_text.specs.declared.fault.ReadFault.{ReadFault}
+use Rattle.index_text.specs.declared.fault.ReadFault.TheVariants as faults
+use Rattle.index_text.specs.declared.row.IndexRow.{IndexRow}
+use Rattle.index_text.specs.Fields.{Stored}
+use Rattle.index_text.specs.Gives.{Fails}
+use Rattle.index_text.specs.Layout.{Text}
+use Rattle.index_text.specs.Reading.{Answers, row_of, rows_in, stored_in}
+use Rattle.index_text.specs.Rows.{IsIndex}
+use Rattle.index_text.proofs.Early.{stored-early}
+use Rattle.index_text.proofs.ReadLaws.{ReadsAgain, one_index, refuses_none}
+use Rattle.index_text.proofs.RowsAgain.{rows_again}
 
 law : ReadsAgain
 law rows are fits bytes short = rows_again rows are fits bytes short

@@ -3,8 +3,8 @@
 
 mod whole;
 
-pub use block_text::WriteFault;
-pub use index_parts::{
+pub use hw_bytes::WriteFault;
+pub use index_text::{
     ChunkMeta, IndexRow, NumberedIndex, ReadFault, few_chunks, write_index, write_numbered_index,
 };
 pub use whole::{NumberedRows, read_index, read_numbered_index};

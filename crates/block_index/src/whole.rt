@@ -1,16 +1,15 @@
 //! Reading a whole index.
 
 ghost use Rattle.std.specs.Prelude.{◌≡◌, ◌⊎◌, List, Err, IfOk, IfErr, map};
-ghost use Rattle.index_parts.specs.declared.row.IndexRow.{IndexRow as Row};
-ghost use Rattle.index_parts.specs.Index.{index_text, series_ids};
-ghost use Rattle.index_parts.specs.Rows.{AreRows, FitsIndex, IsIndex};
-ghost use Rattle.index_parts.specs.Reading.{Answers, front_of, row_of as row_in};
-ghost use Rattle.index_parts.specs.Gives.{nows};
-ghost use Rattle.index_parts.specs.Stored.{stored};
+ghost use Rattle.index_text.specs.declared.row.IndexRow.{IndexRow as Row};
+ghost use Rattle.index_text.specs.Index.{index_text, series_ids};
+ghost use Rattle.index_text.specs.Rows.{AreRows, FitsIndex, IsIndex};
+ghost use Rattle.index_text.specs.Reading.{Answers, front_of, row_of as row_in};
+ghost use Rattle.index_text.specs.Gives.{nows};
+ghost use Rattle.index_text.specs.Stored.{stored};
 
-use block_text::WriteFault;
-use hw_bytes::Items;
-use index_parts::{
+use hw_bytes::{Items, WriteFault};
+use index_text::{
     IndexRow, NumberedIndex, ReadFault, StoredSeries, are_rows, rows_of, stored_index,
     write_numbered_index,
 };

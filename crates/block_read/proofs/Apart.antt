@@ -5,11 +5,11 @@ use Rattle.std.proofs.lemmas.List.{append-nil, length-append, length-drop, lengt
 use Rattle.std.proofs.lemmas.List.Elements.{All-append, All-cons, All-head, All-nil, All-tail}
 use Rattle.head_column.specs.declared.items.Run.{Run}
 use Rattle.head_column.specs.Runs.{AreApart, BeginPast, IsRun}
-use Rattle.index_parts.specs.Rows.{IsChain}
+use Rattle.index_text.specs.Rows.{IsChain}
 use Rattle.block_files.specs.declared.tombstones.Tombstone.{Tombstone}
 use Rattle.block_files.specs.Tombstones.{IsFit, tombstones_text}
 use Rattle.block_files.proofs.RowLaws.{all_first, all_second, whole}
-use Rattle.block_text.specs.Sums.{Text}
+use Rattle.hw_bytes.specs.Sums.{Text}
 use Rattle.block_read.specs.Blocks.{FitsRun, tombstones_of}
 use Rattle.block_read.specs.Reading.{BeginsOther, HaveRuns, entries_of}
 

@@ -13,10 +13,10 @@ use Rattle.head_column.specs.declared.items.Sample.{Sample}
 use Rattle.head_column.specs.Hours.{IsEdge, hour_start}
 use Rattle.head_column.specs.Runs.{AreApart}
 use Rattle.head_column.proofs.HourLaws.{above_least, below_greatest, inside}
-use Rattle.block_text.specs.Sums.{Text}
-use Rattle.index_parts.specs.declared.row.IndexRow.{IndexRow}
-use Rattle.index_parts.specs.Index.{index_text, series_ids}
-use Rattle.index_parts.specs.Rows.{FitsIndex, IsIndex, IsRow}
+use Rattle.hw_bytes.specs.Sums.{Text}
+use Rattle.index_text.specs.declared.row.IndexRow.{IndexRow}
+use Rattle.index_text.specs.Index.{index_text, series_ids}
+use Rattle.index_text.specs.Rows.{FitsIndex, IsIndex, IsRow}
 use Rattle.block_files.specs.declared.encoding.Encoding.{Encoding}
 use Rattle.block_files.specs.declared.meta.Meta.{Meta}
 use Rattle.block_files.specs.Meta.{meta_text}

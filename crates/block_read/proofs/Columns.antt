@@ -14,8 +14,8 @@ use Rattle.head_column.specs.declared.chunk.Chunk.{Chunk}
 use Rattle.head_column.specs.Samples.{Rises}
 use Rattle.head_column.specs.Chunks.{AreFull, IsChunk, IsFit, chunk_samples, first_time, last_time, parts, samples_text, time_text, value_text}
 use Rattle.head_column.proofs.Parts.{one_parts, parts_are}
-use Rattle.block_text.specs.Sums.{Text}
-use Rattle.index_parts.specs.declared.row.ChunkMeta.{ChunkMeta}
+use Rattle.hw_bytes.specs.Sums.{Text}
+use Rattle.index_text.specs.declared.row.ChunkMeta.{ChunkMeta}
 use Rattle.xor_chunk.specs.Chunks.{xor_text}
 use Rattle.block_files.specs.declared.encoding.Encoding.{Encoding}
 use Rattle.block_files.specs.declared.encoding.Encoding.TheVariants.{Raw, Xor}

@@ -5,8 +5,8 @@ use Rattle.std.proofs.lemmas.List.{length-append}
 use Rattle.std.proofs.lemmas.List.Elements.{All-append, All-head, All-nil}
 use Rattle.head_column.specs.declared.items.Sample.{Sample}
 use Rattle.head_column.specs.Chunks.{chunk_samples, parts}
-use Rattle.block_text.specs.Sums.{Text}
-use Rattle.index_parts.specs.declared.row.IndexRow.{IndexRow}
+use Rattle.hw_bytes.specs.Sums.{Text}
+use Rattle.index_text.specs.declared.row.IndexRow.{IndexRow}
 use Rattle.block_files.specs.declared.encoding.Encoding.{Encoding}
 use Rattle.block_files.specs.Files.{StandsAt, all_texts, chunk_element, chunk_files, file_head, longest_chunk, reference_behind, row_texts, with_chunk}
 use Rattle.block_files.proofs.Placed.{chunk_stands}

@@ -5,16 +5,16 @@ use Rattle.std.proofs.lemmas.List.{length-append, length-map, take_more, get_or-
 use Rattle.std.proofs.lemmas.List.FromFn.{get_or-map-range_with_len, length-range_with_len}
 use Rattle.hw_bytes.specs.Writing.{uvarint}
 use Rattle.hw_bytes.proofs.Lists.{fold-push}
-use Rattle.block_text.specs.Sums.{Text, sum_text}
-use Rattle.block_text.proofs.SumLaws.{sum_length}
-use Rattle.index_parts.specs.declared.row.IndexRow.{IndexRow}
-use Rattle.index_parts.specs.Layout.{counted, padding, place, places, put, put_all}
-use Rattle.index_parts.specs.Index.{series_body, series_elements, series_ids, symbols, to_symbols}
-use Rattle.index_parts.specs.Rows.{IsChain}
+use Rattle.hw_bytes.specs.Sums.{Text, sum_text}
+use Rattle.hw_bytes.proofs.SumLaws.{sum_length}
+use Rattle.index_text.specs.declared.row.IndexRow.{IndexRow}
+use Rattle.index_text.specs.Layout.{counted, padding, place, places, put, put_all}
+use Rattle.index_text.specs.Index.{series_body, series_elements, series_ids, symbols, to_symbols}
+use Rattle.index_text.specs.Rows.{IsChain}
 use Rattle.head_column.specs.declared.items.Run.{Run}
 use Rattle.block_read.specs.Blocks.{HasHidden}
 use Rattle.block_read.specs.Reading.{HaveRuns}
-use Rattle.index_parts.proofs.Laid.{length-put}
+use Rattle.index_text.proofs.Laid.{length-put}
 
 chain_of : (xs : List ℕ) → ((i : ℕ) → suc i < length xs → get_or xs i 0 < get_or xs (suc i) 0) → IsChain (λ a b. a < b) xs
 chain_of [] h = tt

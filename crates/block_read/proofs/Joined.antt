@@ -1,8 +1,8 @@
 -- The rows of an index, out of the rows of a block.
 use Rattle.std.proofs.Common.{◌≡◌, List, [], ◌∷◌, map, refl, sym, ap, ◌∙◌}
 use Rattle.std.specs.List.{zip}
-use Rattle.index_parts.specs.declared.row.ChunkMeta.{ChunkMeta}
-use Rattle.index_parts.specs.declared.row.IndexRow.{IndexRow}
+use Rattle.index_text.specs.declared.row.ChunkMeta.{ChunkMeta}
+use Rattle.index_text.specs.declared.row.IndexRow.{IndexRow}
 use Rattle.block_files.specs.declared.encoding.Encoding.{Encoding}
 use Rattle.block_read.specs.declared.rows.BlockRow.{BlockRow}
 use Rattle.block_read.specs.Blocks.{index_rows, metas_of, samples_of_rows}

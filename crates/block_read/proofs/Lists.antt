@@ -2,7 +2,7 @@
 use Rattle.std.proofs.Common.{◌≡◌, ℕ, zero, suc, ◌<◌, List, [], ◌∷◌, length, map, get_or, refl, sym, ap, ◌∙◌, arith}
 use Rattle.std.specs.List.{zip}
 use Rattle.head_column.specs.declared.chunk.Chunk.{Chunk}
-use Rattle.index_parts.specs.declared.row.ChunkMeta.{ChunkMeta}
+use Rattle.index_text.specs.declared.row.ChunkMeta.{ChunkMeta}
 use Rattle.block_read.specs.Blocks.{meta_of}
 
 pub same_lists : {X : Type 0} (d : X) (xs ys : List X) → length xs ≡ length ys → ((k : ℕ) → k < length xs → get_or xs k d ≡ get_or ys k d) → xs ≡ ys

@@ -16,10 +16,10 @@ use Rattle.head_column.specs.declared.chunk.Chunk.{Chunk}
 use Rattle.head_column.specs.Samples.{Rises}
 use Rattle.head_column.specs.Chunks.{AreFull, IsFit, chunk_samples, first_time, last_time, parts}
 use Rattle.head_column.proofs.Parts.{parts_are}
-use Rattle.block_text.specs.Sums.{Text}
-use Rattle.index_parts.specs.declared.row.ChunkMeta.{ChunkMeta}
-use Rattle.index_parts.specs.declared.row.IndexRow.{IndexRow}
-use Rattle.index_parts.specs.Rows.{AreRows, FitsChunk, IsChain, IsRow}
+use Rattle.hw_bytes.specs.Sums.{Text}
+use Rattle.index_text.specs.declared.row.ChunkMeta.{ChunkMeta}
+use Rattle.index_text.specs.declared.row.IndexRow.{IndexRow}
+use Rattle.index_text.specs.Rows.{AreRows, FitsChunk, IsChain, IsRow}
 use Rattle.block_files.specs.declared.encoding.Encoding.{Encoding}
 use Rattle.block_files.specs.Files.{chunk_element, chunk_files, last_reference, reference_behind, row_references, row_texts, texts, with_chunk}
 use Rattle.block_files.proofs.FileLaws.{last_reference_at}

@@ -1,11 +1,11 @@
 -- What reading each part says of the block.
 use Rattle.std.proofs.Common.{◌≡◌, ℕ, List, map, sym, ap, subst, ◌∙◌}
-use Rattle.block_text.specs.Sums.{Text}
+use Rattle.hw_bytes.specs.Sums.{Text}
 use Rattle.head_column.specs.declared.items.Run.{Run}
 use Rattle.head_column.specs.declared.items.Sample.{Sample}
-use Rattle.index_parts.specs.declared.row.IndexRow.{IndexRow}
-use Rattle.index_parts.specs.Index.{series_ids}
-use Rattle.index_parts.specs.Rows.{IsIndex}
+use Rattle.index_text.specs.declared.row.IndexRow.{IndexRow}
+use Rattle.index_text.specs.Index.{series_ids}
+use Rattle.index_text.specs.Rows.{IsIndex}
 use Rattle.block_files.specs.declared.encoding.Encoding.{Encoding}
 use Rattle.block_read.specs.declared.block.Block.{Block}
 use Rattle.block_read.specs.declared.rows.BlockRow.{BlockRow}
@@ -15,8 +15,8 @@ use Rattle.block_read.specs.Reading.{HasMeta, HaveRuns}
 use Rattle.std.proofs.Common.{Result}
 use Rattle.std.specs.Prelude.{IfErr, IsErrAnd}
 use Rattle.std.proofs.lemmas.Result.{err_from_is_err_and}
-use Rattle.index_parts.specs.declared.fault.ReadFault.{ReadFault}
-use Rattle.index_parts.specs.declared.fault.ReadFault.TheVariants as read
+use Rattle.index_text.specs.declared.fault.ReadFault.{ReadFault}
+use Rattle.index_text.specs.declared.fault.ReadFault.TheVariants as read
 use Rattle.block_read.specs.declared.fault.BlockFault.{BlockFault}
 use Rattle.block_read.specs.declared.fault.BlockFault.TheVariants as block_fault
 use Rattle.block_read.specs.Faults.{of_index}

@@ -11,11 +11,11 @@ use Rattle.head_column.specs.Chunks.{IsFit, chunk_samples, chunk_text, first_tim
 use Rattle.head_column.specs.Hours.{IsEdge, hour_start, is_in_hour}
 use Rattle.head_column.specs.Runs.{AreApart}
 use Rattle.head_column.specs.Samples.{Rises}
-use Rattle.block_text.specs.Sums.{Text}
-use Rattle.index_parts.specs.declared.row.ChunkMeta.{ChunkMeta}
-use Rattle.index_parts.specs.declared.row.IndexRow.{IndexRow}
-use Rattle.index_parts.specs.Index.{index_text, series_ids}
-use Rattle.index_parts.specs.Rows.{FitsIndex, IsChain}
+use Rattle.hw_bytes.specs.Sums.{Text}
+use Rattle.index_text.specs.declared.row.ChunkMeta.{ChunkMeta}
+use Rattle.index_text.specs.declared.row.IndexRow.{IndexRow}
+use Rattle.index_text.specs.Index.{index_text, series_ids}
+use Rattle.index_text.specs.Rows.{FitsIndex, IsChain}
 use Rattle.xor_chunk.specs.Chunks.{xor_text}
 use Rattle.block_files.specs.declared.encoding.Encoding.{Encoding}
 use Rattle.block_files.specs.declared.encoding.Encoding.TheVariants.{Raw, Xor}

@@ -1,12 +1,12 @@
 -- The error for an error of a crate below.
-use Rattle.index_parts.specs.declared.fault.ReadFault.{ReadFault}
-use Rattle.index_parts.specs.declared.fault.ReadFault.TheVariants as read
+use Rattle.index_text.specs.declared.fault.ReadFault.{ReadFault}
+use Rattle.index_text.specs.declared.fault.ReadFault.TheVariants as read
 use Rattle.head_column.specs.declared.chunk.ChunkFault.{ChunkFault}
 use Rattle.head_column.specs.declared.chunk.ChunkFault.TheVariants as chunk
 use Rattle.xor_chunk.specs.declared.fault.XorFault.{XorFault}
 use Rattle.xor_chunk.specs.declared.fault.XorFault.TheVariants as xor
-use Rattle.block_text.specs.declared.fault.WriteFault.{WriteFault}
-use Rattle.block_text.specs.declared.fault.WriteFault.TheVariants as write
+use Rattle.hw_bytes.specs.declared.write_fault.WriteFault.{WriteFault}
+use Rattle.hw_bytes.specs.declared.write_fault.WriteFault.TheVariants as write
 use Rattle.block_files.specs.declared.tombstones.TombstonesFault.{TombstonesFault}
 use Rattle.block_files.specs.declared.tombstones.TombstonesFault.TheVariants as tombstones
 use Rattle.block_read.specs.declared.fault.BlockFault.{BlockFault}

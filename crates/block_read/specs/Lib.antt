@@ -1,3 +1,4 @@
 pub mod Blocks
 pub mod Faults
 pub mod Reading
+pub mod Counts

@@ -3,8 +3,8 @@ use Rattle.std.specs.Prelude.{◌≡◌, ℕ, ℤ, pos, ◌+ℤ◌, All, IsTrue,
 use Rattle.std.specs.List.{AllByRecursion, flat_map, zip}
 use Rattle.head_column.specs.declared.items.Sample.{Sample}
 use Rattle.head_column.specs.Chunks.{chunk_samples, first_time, last_time}
-use Rattle.block_text.specs.Sums.{Text}
-use Rattle.index_parts.specs.declared.row.ChunkMeta.{ChunkMeta}
+use Rattle.hw_bytes.specs.Sums.{Text}
+use Rattle.index_text.specs.declared.row.ChunkMeta.{ChunkMeta}
 use Rattle.head_column.specs.Hours.{IsEdge, hour_start, is_in_hour}
 use Rattle.block_files.specs.declared.encoding.Encoding.{Encoding}
 use Rattle.block_files.specs.declared.meta.Meta.{Meta}

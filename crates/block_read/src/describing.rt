@@ -3,7 +3,7 @@
 ghost use Rattle.std.specs.Prelude.{◌≡◌, ◌<◌, ◌^◌, ℤ, pos, ◌+ℤ◌, List, length, Err, IfOk, IsTrue};
 ghost use Rattle.std.specs.List.{AllByRecursion, flat_map};
 ghost use Rattle.std.specs.Io.Iter.{u64_saturate};
-ghost use Rattle.block_text.specs.Sums.{Text};
+ghost use Rattle.hw_bytes.specs.Sums.{Text};
 ghost use Rattle.head_column.specs.Hours.{IsEdge, hour_start, is_in_hour};
 ghost use Rattle.block_files.specs.Meta.{meta_text};
 ghost use Rattle.block_read.specs.Blocks.{IsColumn, IsWithin, chunk_count};
@@ -11,7 +11,7 @@ ghost use Rattle.block_read.specs.Reading.{AreOfHour, AreWithin, HasMeta, summar
 
 use crate::fault::PartFault;
 use block_files::{Meta, Ulid, ulid_of, write_meta};
-use head_column::{CHUNK_SAMPLES, Hour, Run, Sample};
+use head_column::{CHUNK_SAMPLES, HOUR_LENGTH, Hour, Run, Sample};
 use hw_bytes::Items;
 use std::alloc::Global;
 
@@ -36,9 +36,6 @@ fn span_of(hour: Hour) -> Span
         end: (k + 1) * HOUR_LENGTH,
     }
 }
-
-// the length of an hour in milliseconds
-const HOUR_LENGTH: i64 = 3_600_000;
 
 // Returns whether a sample is in the hour.
 fn has_sample(span: Span, sample: &Sample) -> bool

@@ -2,8 +2,8 @@
 
 use block_files::TombstonesFault;
 use block_index::ReadFault;
-use block_text::WriteFault;
 use head_column::ChunkFault;
+use hw_bytes::WriteFault;
 use std::alloc::{AllocError, AllocFailed};
 use std::error::Error;
 use std::fmt;

@@ -3,7 +3,7 @@
 ghost use Rattle.std.specs.Prelude.{◌≡◌, ◌<◌, ◌++◌, ◌∷◌, [], List, Err, IfOk, IsTrue};
 ghost use Rattle.head_column.specs.declared.items.Run.{Run as HiddenRun};
 ghost use Rattle.head_column.specs.Runs.{AreApart, BeginPast, IsRun};
-ghost use Rattle.index_parts.specs.Rows.{IsChain};
+ghost use Rattle.index_text.specs.Rows.{IsChain};
 ghost use Rattle.block_read.specs.Reading.{BeginsOther, HaveRuns, entries_of};
 
 use crate::fault::PartFault;

@@ -1,7 +1,7 @@
 //! Joining the parts of rows.
 
 ghost use Rattle.std.specs.Prelude.{◌≡◌, length, map, Err, IfOk};
-ghost use Rattle.index_parts.specs.declared.row.IndexRow.{IndexRow as Named};
+ghost use Rattle.index_text.specs.declared.row.IndexRow.{IndexRow as Named};
 ghost use Rattle.block_read.specs.declared.rows.BlockRow.{BlockRow as Row};
 ghost use Rattle.block_read.specs.Blocks.{samples_of_rows};
 

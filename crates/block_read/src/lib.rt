@@ -3,6 +3,7 @@
 
 mod block;
 mod chunks;
+mod counts;
 mod describing;
 mod fault;
 mod hidden;
@@ -14,6 +15,7 @@ mod samples;
 pub use block::Block;
 pub use block_files::{BadUlid, Encoding, Ulid};
 pub use block_index::ReadFault;
+pub use counts::{BlockCounts, counts_of};
 pub use fault::BlockFault;
 pub use reading::{read_any_block, read_block};
 pub use rows::{BlockRow, BlockRows};

@@ -3,13 +3,13 @@
 ghost use Rattle.std.specs.Prelude.{◌≡◌, List, Err, IfErr, IfOk};
 ghost use Rattle.block_files.specs.declared.encoding.Encoding.{Encoding as ChunkEncoding};
 ghost use Rattle.block_files.specs.Files.{StandsAt};
-ghost use Rattle.block_text.specs.Sums.{Text};
+ghost use Rattle.hw_bytes.specs.Sums.{Text};
 ghost use Rattle.head_column.specs.declared.items.Run.{Run as HiddenRun};
 ghost use Rattle.head_column.specs.declared.items.Sample.{Sample as Entry};
-ghost use Rattle.index_parts.specs.declared.fault.ReadFault.{ReadFault};
-ghost use Rattle.index_parts.specs.declared.row.IndexRow.{IndexRow as Row};
-ghost use Rattle.index_parts.specs.Reading.{Answers, front_of};
-ghost use Rattle.index_parts.specs.Rows.{IsIndex};
+ghost use Rattle.index_text.specs.declared.fault.ReadFault.{ReadFault};
+ghost use Rattle.index_text.specs.declared.row.IndexRow.{IndexRow as Row};
+ghost use Rattle.index_text.specs.Reading.{Answers, front_of};
+ghost use Rattle.index_text.specs.Rows.{IsIndex};
 ghost use Rattle.block_read.specs.declared.rows.BlockRows.{BlockRows as Rows};
 ghost use Rattle.block_read.specs.Blocks.{HasHidden, HasSamples, IsBlockOf};
 ghost use Rattle.block_read.specs.Faults.{of_index};

@@ -2,21 +2,21 @@
 use Rattle.std.specs.Prelude.{◌≡◌, ◌⊎◌, ℕ, false, List, [], Option, Some, map}
 use Rattle.std.proofs.Common.{ap, inl, inr, subst, ◌∙◌}
 use Rattle.wal_log.specs.Inputs.{Files}
-use Rattle.prom_store.specs.Calls.{Call}
-use Rattle.prom_store.specs.Found.{Found}
-use Rattle.prom_store.specs.declared.requests.AppendRequest.{AppendRequest}
-use Rattle.prom_store.specs.declared.requests.CheckpointRequest.{CheckpointRequest}
-use Rattle.prom_store.specs.declared.requests.CutRequest.{CutRequest}
-use Rattle.prom_store.specs.declared.requests.UnpackRequest.{UnpackRequest}
-use Rattle.prom_files.specs.Crashes.{IsCrashSafe}
-use Rattle.prom_files.specs.Disk.{File, Standing}
-use Rattle.prom_files.specs.Folders.{FileAt}
-use Rattle.prom_files.specs.Shown.{shown}
-use Rattle.log_source.specs.Directory.{IsLogIn}
-use Rattle.live_commands.specs.Crashes.{IfFree, IfStood, OutlastsAppend, OutlastsCheckpoint, ReplaysAlike, ReplaysOldOrRows, ReplaysRows}
+use Rattle.store.specs.Calls.{Call}
+use Rattle.store.specs.Found.{Found}
+use Rattle.store.specs.Disk.{File, Standing}
+use Rattle.answers.specs.declared.requests.AppendRequest.{AppendRequest}
+use Rattle.answers.specs.declared.requests.CheckpointRequest.{CheckpointRequest}
+use Rattle.answers.specs.declared.requests.CutRequest.{CutRequest}
+use Rattle.answers.specs.declared.requests.UnpackRequest.{UnpackRequest}
+use Rattle.new_files.specs.Crashes.{IsCrashSafe}
+use Rattle.new_files.specs.Folders.{FileAt}
+use Rattle.new_files.specs.Shown.{shown}
+use Rattle.log_directory.specs.Directory.{IsLogIn}
+use Rattle.write_commands.specs.Crashes.{IfFree, IfStood, OutlastsAppend, OutlastsCheckpoint, ReplaysAlike, ReplaysOldOrRows, ReplaysRows}
 use Rattle.block_commands.specs.Folders.{Cuts, LeavesBlock, LeavesOldOrBlock}
-use Rattle.unpack_commands.specs.Folders.{Ending, LeavesLog, LeavesOldBesideLog, LeavesOldOrLog, Unpacks}
-use Rattle.unpack_commands.specs.Rescues.{RescueEnding, Rescues}
+use Rattle.unpack_command.specs.Folders.{Ending, LeavesLog, LeavesOldBesideLog, LeavesOldOrLog, Unpacks}
+use Rattle.unpack_command.specs.Rescues.{RescueEnding, Rescues}
 use Rattle.command_tests.specs.Listings.{Did, HoldsAt, file_of, standing_in}
 use Rattle.command_tests.specs.Noted.{calls_of}
 use Rattle.command_tests.specs.Outlasts.{AppendOutlasts, CheckpointOutlasts, CutOutlasts, MakesNone, Outlasts, RescueOutlasts, StaysAlike, UnpackOutlasts}

@@ -2,10 +2,10 @@
 use Rattle.std.specs.Prelude.{◌≡◌, ℕ, Bool, false, List, [], ◌++◌, Option, map, refl}
 use Rattle.std.proofs.Common.{ap, append-nil, subst, sym, ◌∙◌}
 use Rattle.std.proofs.lemmas.List.{append_cancel_left}
-use Rattle.prom_store.specs.Calls.{Call}
-use Rattle.prom_files.specs.Crashes.{AfterCrash, AtEachMoment, IsCrashSafe}
-use Rattle.prom_files.specs.Disk.{CanTakeAll, File, Standing, disk_of}
-use Rattle.prom_files.specs.Folders.{FileAt}
+use Rattle.store.specs.Calls.{Call}
+use Rattle.store.specs.Disk.{CanTakeAll, File, Standing, disk_of}
+use Rattle.new_files.specs.Crashes.{AfterCrash, AtEachMoment, IsCrashSafe}
+use Rattle.new_files.specs.Folders.{FileAt}
 use Rattle.command_tests.specs.Listings.{Did, Relists, file_of, standing_in}
 use Rattle.command_tests.specs.Noted.{calls_of}
 use Rattle.command_tests.specs.Outlasts.{CrashLeaves, Outlasts}

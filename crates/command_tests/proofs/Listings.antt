@@ -3,7 +3,7 @@ use Rattle.std.specs.Prelude.{◌≡◌, ◌≢◌, ◌↔◌, ℕ, Bool, true, 
 use Rattle.std.specs.List.{IsDistinct, find, list_any}
 use Rattle.std.specs.Option.{option_map}
 use Rattle.std.specs.Path.{path_join, with_separator}
-use Rattle.prom_files.specs.Shown.{AreNamesIn}
+use Rattle.new_files.specs.Shown.{AreNamesIn}
 use Rattle.std.proofs.Common.{◌<◌, ◌+◌, Bor, ap, arith, get_or, inl, inr, length, subst, sym, take, ◌∙◌}
 use Rattle.std.proofs.lemmas.Bool.{false≢true, true≢false}
 use Rattle.std.proofs.lemmas.List.Elements.{Contains-append_left, Contains-append_right, Contains-push, Contains-push_cases}
@@ -12,13 +12,13 @@ use Rattle.std.proofs.lemmas.Cmp.{nat_list_eq_equiv}
 use Rattle.std.proofs.lemmas.Map.Keys.{IsDistinct-push}
 use Rattle.std.proofs.lemmas.Option.{none-some}
 use Rattle.std.proofs.lemmas.Slice.Eq.{bytes_eq-Decides}
-use Rattle.prom_files.specs.Folders.{FileAt}
-use Rattle.prom_store.specs.Calls.{Call}
+use Rattle.new_files.specs.Folders.{FileAt}
+use Rattle.store.specs.Calls.{Call}
 use Rattle.command_tests.specs.declared.listed.Listed.{Listed}
 use Rattle.command_tests.specs.Listings.{AreNamesAt, MayBe, creation, file_of, is_at, longer, relisted, renames, standing_in, without}
-use Rattle.prom_files.proofs.Paths.{joined}
+use Rattle.new_files.proofs.Paths.{joined}
 use Rattle.command_tests.proofs.ListLemmas.{find_map, map_more}
-use Rattle.prom_files.specs.Targets.{IsName}
+use Rattle.new_files.specs.Targets.{IsName}
 
 -- whether a file of this path is listed
 abbrev pub has : List FileAt → List ℕ → Bool

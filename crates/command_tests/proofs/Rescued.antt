@@ -5,12 +5,12 @@ use Rattle.std.proofs.Common.{subst}
 use Rattle.wal_log.specs.declared.input.Checkpoint.{Checkpoint}
 use Rattle.wal_log.specs.declared.input.Segment.{Segment}
 use Rattle.wal_log.specs.Plan.{NumberedName}
-use Rattle.prom_store.specs.Found.{Found}
-use Rattle.prom_store.specs.Views.{View}
-use Rattle.log_source.specs.declared.lost.Lost.{Lost}
-use Rattle.log_source.specs.declared.lost.LostPart.{LostPart}
-use Rattle.unpack_commands.specs.Since.{seen_since}
-use Rattle.log_source.specs.Rescued.{AreRescuedIn, IsRescuedCheckpoint, IsRescuedIn, IsRescuedLogIn, SlotValue}
+use Rattle.store.specs.Found.{Found}
+use Rattle.store.specs.Views.{View}
+use Rattle.log_directory.specs.declared.lost.Lost.{Lost}
+use Rattle.log_directory.specs.declared.lost.LostPart.{LostPart}
+use Rattle.unpack_command.specs.Since.{seen_since}
+use Rattle.log_directory.specs.Rescued.{AreRescuedIn, IsRescuedCheckpoint, IsRescuedIn, IsRescuedLogIn, SlotValue}
 use Rattle.command_tests.specs.Listings.{Did, HoldsAt, Relists, file_of, standing_in}
 use Rattle.command_tests.specs.Outlasts.{seen_from}
 use Rattle.command_tests.specs.declared.listing.Listing.{Listing}

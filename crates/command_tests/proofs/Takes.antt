@@ -4,9 +4,9 @@ use Rattle.std.specs.Option.{option_map}
 use Rattle.std.proofs.Common.{ap, subst, sym, ◌∙◌}
 use Rattle.std.proofs.lemmas.Bool.{false≢true, true≢false}
 use Rattle.std.proofs.lemmas.Slice.Eq.{bytes_eq-Decides}
-use Rattle.prom_store.specs.Calls.{Call, Create, CreateDir, Remove, Rename, SyncDir, SyncFile, Write}
-use Rattle.prom_files.specs.Disk.{CanTakeAll, Disk, File, New, Old, after, disk_of, is_in, latest}
-use Rattle.prom_files.specs.Folders.{FileAt}
+use Rattle.store.specs.Calls.{Call, Create, CreateDir, Remove, Rename, SyncDir, SyncFile, Write}
+use Rattle.store.specs.Disk.{CanTakeAll, Disk, File, New, Old, after, disk_of, is_in, latest}
+use Rattle.new_files.specs.Folders.{FileAt}
 use Rattle.command_tests.specs.Listings.{MayBe, Relists, is_at, longer, relisted, renames, standing_in, without}
 use Rattle.command_tests.proofs.Listings.{has, has_mapped, has_more, has_without, longer_path, none_has, none_stands}
 

@@ -5,14 +5,14 @@ use Rattle.std.proofs.Common.{inl, inr, subst}
 use Rattle.wal_log.specs.declared.input.Checkpoint.{Checkpoint}
 use Rattle.wal_log.specs.declared.input.Segment.{Segment}
 use Rattle.wal_log.specs.Plan.{NumberedName}
-use Rattle.log_unpacking.specs.declared.fault.UnpackDamage.{UnpackDamage}
-use Rattle.prom_store.specs.Calls.{Call}
-use Rattle.prom_store.specs.Found.{Found}
-use Rattle.prom_store.specs.Views.{View}
-use Rattle.prom_files.specs.Folders.{FileAt}
-use Rattle.log_source.specs.declared.unpacking.FileDamage.{FileDamage}
-use Rattle.log_source.specs.Unpacked.{AreUnpackedBehind, AreUnpackedIn, IsUnpackedCheckpoint, IsUnpackedFolder, IsUnpackedIn, IsUnpackedLogIn, IsUnpackedPlan}
-use Rattle.unpack_commands.specs.Since.{seen_since}
+use Rattle.wal_unpack.specs.declared.fault.UnpackDamage.{UnpackDamage}
+use Rattle.store.specs.Calls.{Call}
+use Rattle.store.specs.Found.{Found}
+use Rattle.store.specs.Views.{View}
+use Rattle.new_files.specs.Folders.{FileAt}
+use Rattle.log_directory.specs.declared.unpacking.FileDamage.{FileDamage}
+use Rattle.log_directory.specs.Unpacked.{AreUnpackedBehind, AreUnpackedIn, IsUnpackedCheckpoint, IsUnpackedFolder, IsUnpackedIn, IsUnpackedLogIn, IsUnpackedPlan}
+use Rattle.unpack_command.specs.Since.{seen_since}
 use Rattle.command_tests.specs.Listings.{Did, HoldsAt, Relists, file_of, standing_in}
 use Rattle.command_tests.specs.Outlasts.{seen_from}
 use Rattle.command_tests.specs.declared.listing.Listing.{Listing}

@@ -4,12 +4,12 @@ use Rattle.std.specs.List.{IsDistinct, find}
 use Rattle.std.specs.Option.{option_map}
 use Rattle.std.specs.Path.{slash}
 use Rattle.std.proofs.Common.{◌∙◌, ap, sym, subst, refl}
-use Rattle.prom_store.specs.Calls.{Call, Create, CreateDir, Remove, Rename, SyncDir, SyncFile, Write}
-use Rattle.prom_store.specs.Found.{Bytes, Found, Names}
-use Rattle.prom_files.specs.Disk.{Standing}
-use Rattle.prom_files.specs.Folders.{FileAt}
-use Rattle.prom_files.specs.Shown.{AreNamesIn}
-use Rattle.prom_files.specs.Targets.{IsName}
+use Rattle.store.specs.Calls.{Call, Create, CreateDir, Remove, Rename, SyncDir, SyncFile, Write}
+use Rattle.store.specs.Found.{Bytes, Found, Names}
+use Rattle.store.specs.Disk.{Standing}
+use Rattle.new_files.specs.Folders.{FileAt}
+use Rattle.new_files.specs.Shown.{AreNamesIn}
+use Rattle.new_files.specs.Targets.{IsName}
 use Rattle.command_tests.specs.Noted.{IsNoted, noted_both, noted_nothing}
 use Rattle.command_tests.specs.declared.noted_call.NotedCall.{NotedCall}
 use Rattle.command_tests.specs.declared.listed.Listed.{Listed}

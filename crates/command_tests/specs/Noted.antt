@@ -1,7 +1,7 @@
 -- Calls as a store notes them.
 use Rattle.std.specs.Prelude.{◌≡◌, List, [], ◌++◌, string_bytes, map}
 use Rattle.std.proofs.Common.{sym, ◌∙◌, ap, append_assoc, append-nil}
-use Rattle.prom_store.specs.Calls.{Call, Create, CreateDir, Remove, Rename, SyncDir, SyncFile, Write}
+use Rattle.store.specs.Calls.{Call, Create, CreateDir, Remove, Rename, SyncDir, SyncFile, Write}
 use Rattle.command_tests.specs.declared.noted_call.NotedCall.{NotedCall}
 use Rattle.command_tests.specs.declared.noted_call.NotedCall.TheVariants as noted
 

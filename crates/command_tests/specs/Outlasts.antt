@@ -6,34 +6,34 @@ use Rattle.wal_log.specs.declared.input.Segment.{Segment}
 use Rattle.wal_log.specs.Inputs.{Files, last_number}
 use Rattle.head_core.specs.Content.{Content}
 use Rattle.head_serial.specs.Replays.{IsReplayed}
-use Rattle.head_judging.specs.Rows.{Row}
+use Rattle.head_live.specs.Rows.{Row}
 use Rattle.block_read.specs.declared.block.Block.{Block}
 use Rattle.block_cut.specs.Logs.{IsBlockOfLog}
-use Rattle.prom_store.specs.Calls.{Call}
-use Rattle.prom_store.specs.Views.{View}
-use Rattle.prom_store.specs.declared.damage.Flaw.{Flaw}
-use Rattle.prom_store.specs.declared.requests.AppendRequest.{AppendRequest}
-use Rattle.prom_store.specs.declared.requests.CheckpointRequest.{CheckpointRequest}
-use Rattle.prom_store.specs.declared.requests.CutRequest.{CutRequest}
-use Rattle.prom_store.specs.declared.requests.UnpackRequest.{UnpackRequest}
-use Rattle.prom_files.specs.Crashes.{AtEachMoment}
-use Rattle.prom_files.specs.Disk.{File, MayLeave, Standing, after_all, disk_of}
-use Rattle.prom_files.specs.Folders.{FileAt}
-use Rattle.prom_files.specs.Shown.{AreNamesIn, IsTreeIn, shown}
-use Rattle.prom_files.specs.Targets.{unfinished_of}
-use Rattle.log_source.specs.Directory.{IsLogIn}
-use Rattle.log_source.specs.Sources.{IsSourceIn}
-use Rattle.prom_commands.specs.Answers.{IsNoDamage}
-use Rattle.live_commands.specs.Checkpoints.{IsFreeIn, checkpoint_path}
-use Rattle.live_commands.specs.Crashes.{ReplaysAlike, ReplaysOldOrRows, ReplaysRows}
-use Rattle.live_commands.specs.RowTexts.{AreRowsAt}
+use Rattle.store.specs.Calls.{Call}
+use Rattle.store.specs.Views.{View}
+use Rattle.store.specs.Disk.{File, MayLeave, Standing, after_all, disk_of}
+use Rattle.answers.specs.declared.damage.Flaw.{Flaw}
+use Rattle.answers.specs.declared.requests.AppendRequest.{AppendRequest}
+use Rattle.answers.specs.declared.requests.CheckpointRequest.{CheckpointRequest}
+use Rattle.answers.specs.declared.requests.CutRequest.{CutRequest}
+use Rattle.answers.specs.declared.requests.UnpackRequest.{UnpackRequest}
+use Rattle.new_files.specs.Crashes.{AtEachMoment}
+use Rattle.new_files.specs.Folders.{FileAt}
+use Rattle.new_files.specs.Shown.{AreNamesIn, IsTreeIn, shown}
+use Rattle.new_files.specs.Targets.{unfinished_of}
+use Rattle.log_directory.specs.Directory.{IsLogIn}
+use Rattle.log_directory.specs.Sources.{IsSourceIn}
+use Rattle.answers.specs.Answers.{IsNoDamage}
+use Rattle.write_commands.specs.Checkpoints.{IsFreeIn, checkpoint_path}
+use Rattle.write_commands.specs.Crashes.{ReplaysAlike, ReplaysOldOrRows, ReplaysRows}
+use Rattle.write_commands.specs.RowTexts.{AreRowsAt}
 use Rattle.block_commands.specs.Folders.{IsFreeIn as IsFreeForBlock, LeavesBlock, LeavesOldOrBlock}
-use Rattle.log_source.specs.declared.unpacking.FileDamage.{FileDamage}
-use Rattle.unpack_commands.specs.Folders.{Ending, IsOut, LeavesLog, LeavesOldBesideLog, LeavesOldOrLog}
-use Rattle.log_source.specs.declared.lost.Lost.{Lost}
-use Rattle.log_source.specs.Rescued.{IsRescuedLogIn}
-use Rattle.unpack_commands.specs.Rescues.{RescueEnding}
-use Rattle.log_source.specs.Unpacked.{IsUnpackedLogIn}
+use Rattle.log_directory.specs.declared.unpacking.FileDamage.{FileDamage}
+use Rattle.unpack_command.specs.Folders.{Ending, IsOut, LeavesLog, LeavesOldBesideLog, LeavesOldOrLog}
+use Rattle.log_directory.specs.declared.lost.Lost.{Lost}
+use Rattle.log_directory.specs.Rescued.{IsRescuedLogIn}
+use Rattle.unpack_command.specs.Rescues.{RescueEnding}
+use Rattle.log_directory.specs.Unpacked.{IsUnpackedLogIn}
 use Rattle.command_tests.specs.Listings.{HoldsAt, Relists, standing_in}
 
 -- P of what a crash may leave behind these calls, where this stood before, and of what its paths lead to

@@ -6,10 +6,10 @@ use crate::fragments::*;
 use crate::runs::{APPEND, CHECKPOINT, Case, Left, carried_out, complaint, shelf_of};
 use crate::shelf::{Act, Shelf};
 use head_replay::NoGate;
-use prom_store::{Store, StoreFault};
 use std::process::Abort;
 use std::sync::Wait;
 use std::thread::Threads;
+use store::{Store, StoreFault};
 
 const APPENDED: Left = (0, "accepted\nsegment 00000001\n", "");
 

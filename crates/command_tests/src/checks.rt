@@ -1,11 +1,11 @@
 //! What tests hold against what is wanted.
 
 use crate::shelf::Shelf;
-use prom_store::{Reason, Store, StoreFault};
 use std::alloc::Global;
 use std::fmt::Debug;
 use std::io::ErrorKind;
 use std::process::Abort;
+use store::{Reason, Store, StoreFault};
 
 /// The name of all blocks of the tests.
 pub const ULID: &str = "01ARZ3NDEKTSV4RRFFQ69G5FAV";

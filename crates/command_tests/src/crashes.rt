@@ -7,16 +7,16 @@ use crate::runs::{
 };
 use crate::shelf::Shelf;
 use crate::tree::Kept;
+use answers::{LogForm, Request, Status};
 use block_commands::BlockRequest;
+use command_line::Asked;
 use head_replay::{NoGate, Options};
-use prom_commands::Request;
-use prom_line::Asked;
-use prom_store::{LogForm, Status, Store, StoreFault};
 use std::alloc::{AllocError, Global};
 use std::fmt::Debug;
 use std::process::Abort;
 use std::sync::Wait;
 use std::thread::Threads;
+use store::{Store, StoreFault};
 
 // How much a crash keeps of names, and of bytes, that were not synced.
 const WAYS: &[(Kept, Kept)] = &[

@@ -7,15 +7,15 @@ use crate::runs::{
     replayed_by, shelf_of,
 };
 use crate::shelf::Shelf;
+use answers::{InspectRequest, LogForm, Request};
 use block_commands::BlockRequest;
+use command_line::Asked;
 use head_replay::NoGate;
-use prom_commands::Request;
-use prom_line::Asked;
-use prom_store::{InspectRequest, LogForm, StoreFault};
 use std::alloc::AllocError;
 use std::process::Abort;
 use std::sync::Wait;
 use std::thread::Threads;
+use store::StoreFault;
 
 // Carries out what is asked for, and ends the test unless it leaves this.
 fn assert_left<R: Abort + Threads + Wait + Sync + AllocGlobal>(

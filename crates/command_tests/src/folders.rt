@@ -2,12 +2,13 @@
 
 use crate::checks::{ULID, UNSAID, assert_names, same};
 use crate::shelf::Shelf;
+use answers::Fault;
 use block_commands::{read_parts, write_block};
 use block_read::{Block, Ulid};
 use hw_bytes::Items;
-use prom_store::{Fault, Store, StoreFault};
 use std::alloc::{AllocError, Global};
 use std::process::Abort;
+use store::{Store, StoreFault};
 
 fn items(alloc: Global, bytes: &[u8]) -> Result<Items<u8>, AllocError> {
     Ok(Items::from_vec(Vec::from_slice(alloc, bytes)?))

@@ -2,9 +2,9 @@
 
 use crate::checks::{UNSAID, same};
 use crate::shelf::Shelf;
-use prom_store::StoreFault;
-use server_blocks::min_valid_of;
+use log_directory::min_valid_of;
 use std::alloc::Global;
+use store::StoreFault;
 
 // What stands in the data directory: directories, whose paths end in `/`, and files with their bytes.
 const STANDING: &[(&str, &[u8])] = &[

@@ -4,7 +4,7 @@ ghost use Rattle.std.specs.Prelude.{◌≡◌, ◌↔◌, ◌==◌, ℕ, ◌∷�
 ghost use Rattle.std.specs.List.{find, list_all};
 ghost use Rattle.std.specs.Option.{option_map};
 ghost use Rattle.command_tests.specs.Listings.{file_of, is_below, longer, renamed as new_path, renamed_file, without as files_without};
-ghost use Rattle.prom_files.specs.Targets.{IsName};
+ghost use Rattle.new_files.specs.Targets.{IsName};
 
 use std::alloc::{AllocError, Global};
 

@@ -3,16 +3,16 @@
 ghost use Rattle.std.specs.Prelude.{◌≡◌, ◌∷◌, ◌++◌, [], ℕ, List, IfOk, IsOk, bytes_eq, map, string_bytes};
 ghost use Rattle.std.specs.List.{list_any};
 ghost use Rattle.std.specs.Path.{with_separator};
-ghost use Rattle.prom_store.specs.Calls.{Called};
-ghost use Rattle.prom_files.specs.Folders.{FileAt};
+ghost use Rattle.store.specs.Calls.{Called};
+ghost use Rattle.new_files.specs.Folders.{FileAt};
 ghost use Rattle.command_tests.specs.Noted.{call_of};
 ghost use Rattle.command_tests.specs.Listings.{AreNamesAt, Did, MayBe, creation as created, file_of, relisted, renames};
 
 use crate::listed::{Listed, found, name_in, with_bytes, with_new, with_renamed, without};
 use crate::noted_call::NotedCall;
-use prom_store::{Reason, Store, StoreFault};
 use std::alloc::{AllocError, Global};
 use std::io::ErrorKind;
+use store::{Reason, Store, StoreFault};
 
 // A call is refused.
 const REFUSED: StoreFault = StoreFault::Refused(Reason::Other(ErrorKind::Other));

@@ -6,13 +6,14 @@ use crate::listed::{Listed, found};
 use crate::noted_call::NotedCall;
 use crate::outlasts::{Outcome, append, cut, make_checkpoint, unpack};
 use crate::runs::{APPEND, CHECKPOINT, CUT, Case, RESCUE, UNPACK};
+use answers::Status;
 use block_commands::BlockRequest;
-use prom_line::Asked;
-use prom_store::{Status, StoreFault};
+use command_line::Asked;
 use std::alloc::{AllocError, Global};
 use std::process::Abort;
 use std::sync::Wait;
 use std::thread::Threads;
+use store::StoreFault;
 
 // The files of a case, in a list.
 fn listed(alloc: Global, case: &Case) -> Result<Vec<Listed>, AllocError> {

@@ -6,11 +6,11 @@ use crate::fragments::*;
 use crate::runs::{APPEND, carried_out};
 use crate::shelf::Shelf;
 use head_replay::NoGate;
-use prom_store::StoreFault;
 use std::alloc::{AllocError, Global};
 use std::process::Abort;
 use std::sync::Wait;
 use std::thread::Threads;
+use store::StoreFault;
 
 // So many rows of one series, which the log has, and so many new series.
 fn rows(alloc: Global, (of_one, series): (u64, u64)) -> Result<String, AllocError> {

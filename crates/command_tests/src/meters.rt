@@ -3,13 +3,12 @@
 use crate::checks::{ULID, same};
 use crate::fragments::*;
 use crate::runs::{CUT, Case, carried_out, shelf_of};
+use answers::{AnalyzeRequest, DumpRequest, Encoding, LogForm, Request};
 use block_commands::{BlockRequest, CutRequest};
+use command_line::Asked;
 use head_replay::{Gate, NoGate, Options};
-use live_commands::AppendRequest;
-use prom_commands::{Meter, Progress, Request, carry_out};
-use prom_figures::Extent;
-use prom_line::Asked;
-use prom_store::{AnalyzeRequest, DumpRequest, Encoding, LogForm, StoreFault};
+use log_commands::carry_out;
+use progress::{Extent, Meter, Progress};
 use std::alloc::Global;
 use std::cell::{Cell, RefCell};
 use std::fmt::{Debug, Display};
@@ -20,6 +19,8 @@ use std::sync::atomic::{AtomicU64, Ordering};
 use std::thread::Threads;
 use std::time::{Clock, Duration};
 use std::{io, mem};
+use store::StoreFault;
+use write_commands::AppendRequest;
 
 // A terminal that keeps what is said, with a clock that is set by hand.
 #[derive(Drop)]

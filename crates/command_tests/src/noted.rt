@@ -7,11 +7,11 @@ use crate::noted_call::NotedCall;
 use crate::runs::{APPEND, CHECKPOINT, CUT, Case, carried_out, shelf_of};
 use crate::shelf::{Shelf, ShelfWriter};
 use head_replay::NoGate;
-use prom_store::{Store, StoreFault};
 use std::alloc::Global;
 use std::process::Abort;
 use std::sync::Wait;
 use std::thread::Threads;
+use store::{Store, StoreFault};
 
 /// A writer, with the path of its file.
 #[derive(Drop)]

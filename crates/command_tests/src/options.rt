@@ -2,14 +2,13 @@
 //! and what help prints, is in examples/cases.
 
 use crate::checks::same;
+use answers::{AnalyzeRequest, DumpRequest, Encoding, Fault, LogForm, Request, UnpackRequest};
 use block_commands::{BlockRequest, CutRequest};
+use command_line::{Asked, CommandLine, parse};
 use head_replay::Options;
-use live_commands::{AppendRequest, CheckpointRequest};
-use prom_commands::Request;
-use prom_line::{Asked, CommandLine, parse};
-use prom_store::{AnalyzeRequest, DumpRequest, Encoding, Fault, LogForm, UnpackRequest};
 use std::alloc::{AllocError, Global};
 use std::process::Abort;
+use write_commands::{AppendRequest, CheckpointRequest};
 
 // The words of a line, which are parted by spaces.
 fn words(alloc: Global, line: &str) -> Result<Vec<String>, AllocError> {

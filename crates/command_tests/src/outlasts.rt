@@ -1,8 +1,8 @@
 //! The commands that write, over a list of files: what stands before them and after them, and what a crash at any moment leaves.
 
 ghost use Rattle.std.specs.Prelude.{◌≡◌, [], false, map, true};
-ghost use Rattle.unpack_commands.specs.Folders.{ending_of};
-ghost use Rattle.unpack_commands.specs.Rescues.{rescue_ending_of};
+ghost use Rattle.unpack_command.specs.Folders.{ending_of};
+ghost use Rattle.unpack_command.specs.Rescues.{rescue_ending_of};
 ghost use Rattle.command_tests.specs.Listings.{file_of};
 ghost use Rattle.command_tests.specs.Noted.{calls_of};
 ghost use Rattle.command_tests.specs.Outlasts.{AppendOutlasts, CheckpointOutlasts, CutOutlasts, RescueOutlasts, UnpackOutlasts};
@@ -10,15 +10,14 @@ ghost use Rattle.command_tests.specs.Outlasts.{AppendOutlasts, CheckpointOutlast
 use crate::listed::Listed;
 use crate::listing::Listing;
 use crate::noted_call::NotedCall;
+use answers::{Answer, LogForm, Status, UnpackRequest};
 use block_commands::{BlockRequest, CutRequest, carry_out_block};
 use head_replay::NoGate;
-use live_commands::{AppendRequest, CheckpointRequest, carry_out_append, carry_out_checkpoint};
-use prom_commands::Answer;
-use prom_store::{LogForm, Status, UnpackRequest};
 use std::alloc::Global;
 use std::sync::Wait;
 use std::thread::Threads;
-use unpack_commands::carry_out_unpack;
+use unpack_command::carry_out_unpack;
+use write_commands::{AppendRequest, CheckpointRequest, carry_out_append, carry_out_checkpoint};
 
 /// What a run over a list of files leaves: its answer, the files, and the calls that changed them.
 #[derive(Debug, Drop)]

@@ -3,21 +3,21 @@
 use crate::checks::ULID;
 use crate::fragments::*;
 use crate::shelf::Shelf;
+use answers::{AnalyzeRequest, Answer, DumpRequest, Encoding, LogForm, UnpackRequest};
 use block_commands::{BlockRequest, CutRequest, carry_out_block};
+use command_line::Asked;
 use head_replay::Options;
-use live_commands::{AppendRequest, CheckpointRequest, carry_out_append, carry_out_checkpoint};
-use prom_commands::{Answer, Progress, carry_out};
-use prom_line::Asked;
-use prom_store::{
-    AnalyzeRequest, DumpRequest, Encoding, LogForm, Store, StoreFault, UnpackRequest,
-};
+use inspect_command::carry_out_inspect;
+use log_commands::carry_out;
+use progress::Progress;
 use query_commands::{carry_out_analyze, carry_out_dump};
 use rescue_commands::{carry_out_blocks, carry_out_rescue};
 use std::alloc::{AllocError, Global};
 use std::sync::Wait;
 use std::thread::Threads;
-use survey_commands::carry_out_inspect;
-use unpack_commands::carry_out_unpack;
+use store::{Store, StoreFault};
+use unpack_command::carry_out_unpack;
+use write_commands::{AppendRequest, CheckpointRequest, carry_out_append, carry_out_checkpoint};
 
 /// How logs are replayed. What is found does not depend on it.
 pub const OPTIONS: &[Options] = &[

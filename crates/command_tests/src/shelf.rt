@@ -4,9 +4,9 @@ ghost use Rattle.std.specs.Prelude.{⊤};
 
 use crate::checks::UNSAID;
 use crate::tree::{Kept, Tree};
-use prom_store::{Store, StoreFault};
 use std::alloc::Global;
 use std::cell::{RefCell, RefMut};
+use store::{Store, StoreFault};
 
 // Which call fails, by its number, and how.
 #[derive(Clone, Copy)]

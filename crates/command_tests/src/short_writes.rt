@@ -1,10 +1,10 @@
 //! Bytes that are written to a writer that takes few at a time.
 
 use crate::checks::{UNSAID, same};
-use prom_store::{StoreFault, write_whole};
 use std::alloc::Global;
 use std::io;
 use std::io::{ErrorKind, Write};
+use store::{StoreFault, write_whole};
 
 // A writer that takes at most so many bytes a call, and of all calls at most so many bytes.
 #[derive(Drop)]

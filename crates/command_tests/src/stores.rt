@@ -2,12 +2,12 @@
 
 use crate::checks::{UNSAID, names, same};
 use crate::shelf::Shelf;
-use prom_store::{Disk, Reason, Store, StoreFault, names_of, read_whole};
 use std::alloc::{AllocError, Global};
 use std::io::{ErrorKind, Read};
 use std::process::Abort;
 use std::test::Fail;
 use std::{env, fs, io, process};
+use store::{Disk, Reason, Store, StoreFault, names_of, read_whole};
 
 const REFUSED: Result<&str, StoreFault> = Err(UNSAID);
 

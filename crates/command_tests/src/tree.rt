@@ -1,9 +1,9 @@
 //! Directories and files in memory, with what of them was synced.
 
 use crate::checks::UNSAID;
-use prom_store::StoreFault;
 use std::alloc::{AllocError, Global};
 use std::mem::replace;
+use store::StoreFault;
 
 /// How much of what was not synced is there after a crash.
 #[derive(Clone, Copy, Debug)]

@@ -7,9 +7,8 @@ ghost use Rattle.block_files.specs.Files.{longest_chunk};
 
 use crate::cases::{Case, check, shown};
 use block_files::{ChunkFiles, Encoding, chunk_at, write_chunks};
-use block_text::WriteFault;
 use head_column::{Chunk, Sample, decode_chunk};
-use hw_bytes::{Items, crc32c};
+use hw_bytes::{Items, WriteFault, crc32c};
 use std::alloc::{AllocError, Global};
 
 // The data of 120 samples, a second apart from the time 0 on, with the values 256 k, 256 k + 1 and so on.

@@ -1,6 +1,6 @@
 //! Indices, written and read.
 
-ghost use Rattle.index_parts.specs.Rows.{AreRows};
+ghost use Rattle.index_text.specs.Rows.{AreRows};
 
 use crate::cases::{Case, check, of_hex, put_at, shown};
 use block_index::{

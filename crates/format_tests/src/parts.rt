@@ -7,8 +7,8 @@ use block_files::{
 };
 use block_index::ReadFault;
 use block_read::BlockFault;
-use block_text::{WriteFault, four_bytes_of, is_summed, put_sum};
 use head_column::Run;
+use hw_bytes::{WriteFault, four_bytes_of, is_summed, put_sum};
 use std::alloc::{AllocError, Global};
 
 // A tombstone: the series, and the first and the last time.

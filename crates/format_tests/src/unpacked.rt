@@ -2,8 +2,8 @@
 
 use crate::cases::{Case, check};
 use hw_bytes::crc32c;
-use log_unpacking::unpack_file;
 use std::alloc::{AllocError, Global};
+use wal_unpack::unpack_file;
 
 // A file. Of each record that it stands for the offset, the length and the checksum are told, and then the damage.
 struct Unpacking(&'static [u8]);

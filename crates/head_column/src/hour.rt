@@ -5,8 +5,8 @@ ghost use Rattle.head_column.specs.Hours.{hour_start, is_in_hour, HasTime, IsEdg
 
 use std::marker::Model;
 
-// An hour in milliseconds.
-const HOUR_LENGTH: i64 = 3_600_000;
+/// The length of an hour in milliseconds.
+pub const HOUR_LENGTH: i64 = 3_600_000;
 
 // The hours of the least and the greatest `i64`. The least is inside its hour, so rounding toward zero gives the next one.
 const FIRST: i64 = i64::MIN / HOUR_LENGTH - 1;
@@ -58,7 +58,7 @@ impl Hour {
     }
 
     /// Returns the time at which the hour begins, and that at which the next one does. Either may not be an `i64`.
-    pub(crate) fn bounds(self) -> (i128, i128)
+    pub fn bounds(self) -> (i128, i128)
         ensures start { result.0 ≡ hour_start self }
         ensures end { result.1 ≡ hour_start (self +ℤ pos 1) }
     {

@@ -26,7 +26,7 @@ pub use column::Column;
 pub use decoding::decode_chunk;
 pub use encoding::encode_chunk;
 pub use gathering::GatheringColumn;
-pub use hour::Hour;
+pub use hour::{HOUR_LENGTH, Hour};
 pub use items::{Item, Outcome, Run, Sample};
 pub use laws::{
     chunk_parts, columns_follow_items, greatest_time, hours, one_chunk, tallies_follow_items,

@@ -49,6 +49,7 @@ use crate::parts::{Part, build_parts, count_in, lone_part, queue_all};
 use crate::seats::{Seat, make_room, make_seats, seat_next};
 use crate::spread::{make_rows, seat_all};
 use crate::spreads::Spread;
+use crate::workers::Workers;
 use crate::{Builder, Stepped};
 use std::alloc::{AllocError, Global};
 use std::marker::Model;
@@ -97,7 +98,7 @@ pub struct AddRefused<B> {
 /// and the outcomes of the items are the same both ways.
 pub struct Deal<B: Builder> {
     pub(crate) tag: u64,
-    pub(crate) workers: usize,
+    pub(crate) workers: Workers,
     pub(crate) slots: usize,
     pub(crate) count: usize,
     pub(crate) seats: Vec<Seat>,
@@ -125,9 +126,9 @@ impl<B: Builder> Model for Deal<B> {
 
     ghost Value = { Dealing B B.Item B.Outcome };
 
-    ghost view = { λ d. held d.tag d.workers d.slots d.count d.parts.items };
+    ghost view = { λ d. held d.tag d.workers.number d.slots d.count d.parts.items };
 
-    ghost invariant = { λ d. Holds (held d.tag d.workers d.slots d.count d.parts.items) d.slots d.count d.parts.items × AreSeats d.workers d.seats.items ×
+    ghost invariant = { λ d. Holds (held d.tag d.workers.number d.slots d.count d.parts.items) d.slots d.count d.parts.items × AreSeats d.workers.number d.seats.items ×
         (length d.seats.items ≡ min d.slots (2 ^ 32)) };
 }
 
@@ -155,61 +156,81 @@ impl<B: Builder> Deal<B> {
                 fault: DealFault::NoWorkers,
             });
         }
-        if workers > 64 {
+        let Some(workers) = Workers::new(workers) else {
             return Err(DealRefused {
                 builders,
                 fault: DealFault::TooManyWorkers,
             });
-        }
-        if workers == 1 {
-            return Deal::deal_alone(alloc, tag, builders);
-        }
-        Deal::deal_to(alloc, tag, workers, builders)
-    }
-
-    // Returns a deal of one worker, which has all builders in place.
-    fn deal_alone(alloc: Global, tag: u64, builders: Vec<B>) -> Result<Deal<B>, DealRefused<B>>
-        ensures deal { IfOk result (λ d. d ≡ record { tag = tag; workers = 1; builders = builders.items; jobs = [] }) }
-        ensures memory { IfErr result (λ e. e.fault ≡ DealFault.Memory) }
-        ensures handed_back { IfErr result (λ e. e.builders.items ≡ builders.items) }
-    {
-        let slots = builders.len();
-        match prepare_alone(alloc, slots) {
-            Ok((seats, mut parts)) => {
-                parts.push_reserved(lone_part(alloc, tag, builders));
-                Ok(Deal {
-                    tag,
-                    workers: 1,
-                    slots,
-                    count: 0,
-                    seats,
-                    parts,
-                })
-            }
-            Err(_) => Err(DealRefused {
+        };
+        match Deal::for_workers(alloc, tag, workers, builders) {
+            Ok(deal) => Ok(deal),
+            Err(builders) => Err(DealRefused {
                 builders,
                 fault: DealFault::Memory,
             }),
         }
     }
 
+    /// Returns a deal of no items, as `new` does, for a number of workers that was checked before. Returns the builders as the error if out
+    /// of memory.
+    pub fn for_workers(
+        alloc: Global,
+        tag: u64,
+        workers: Workers,
+        builders: Vec<B>,
+    ) -> Result<Deal<B>, Vec<B>>
+        ensures deal { IfOk result (λ d. d ≡ record { tag = tag; workers = workers.number; builders = builders.items; jobs = [] }) }
+        ensures handed_back { IfErr result (λ back. back.items ≡ builders.items) }
+    {
+        if workers.number == 1 {
+            return Deal::deal_alone(alloc, tag, workers, builders);
+        }
+        Deal::deal_to(alloc, tag, workers, builders)
+    }
+
+    // Returns a deal of one worker, which has all builders in place.
+    fn deal_alone(
+        alloc: Global,
+        tag: u64,
+        one: Workers,
+        builders: Vec<B>,
+    ) -> Result<Deal<B>, Vec<B>>
+        requires { one.number ≡ 1 }
+        ensures deal { IfOk result (λ d. d ≡ record { tag = tag; workers = one.number; builders = builders.items; jobs = [] }) }
+        ensures handed_back { IfErr result (λ back. back.items ≡ builders.items) }
+    {
+        let slots = builders.len();
+        match prepare_alone(alloc, one, slots) {
+            Ok((seats, mut parts)) => {
+                parts.push_reserved(lone_part(alloc, tag, builders));
+                Ok(Deal {
+                    tag,
+                    workers: one,
+                    slots,
+                    count: 0,
+                    seats,
+                    parts,
+                })
+            }
+            Err(_) => Err(builders),
+        }
+    }
+
+    // Returns a deal of several workers.
     fn deal_to(
         alloc: Global,
         tag: u64,
-        workers: usize,
+        workers: Workers,
         builders: Vec<B>,
-    ) -> Result<Deal<B>, DealRefused<B>>
-        requires some { 0 < workers }
-        requires most { workers ≤ 64 }
-        ensures deal { IfOk result (λ d. d ≡ record { tag = tag; workers = workers; builders = builders.items; jobs = [] }) }
-        ensures memory { IfErr result (λ e. e.fault ≡ DealFault.Memory) }
-        ensures handed_back { IfErr result (λ e. e.builders.items ≡ builders.items) }
+    ) -> Result<Deal<B>, Vec<B>>
+        ensures deal { IfOk result (λ d. d ≡ record { tag = tag; workers = workers.number; builders = builders.items; jobs = [] }) }
+        ensures handed_back { IfErr result (λ back. back.items ≡ builders.items) }
     {
         let slots = builders.len();
         match prepare(alloc, workers, slots) {
             Ok((seats, mut rows, mut parts)) => {
                 seat_all(&mut rows, builders, workers);
-                build_parts(alloc, &mut parts, &mut rows, tag, workers, slots);
+                build_parts(alloc, &mut parts, &mut rows, tag, workers.number, slots);
                 Ok(Deal {
                     tag,
                     workers,
@@ -219,10 +240,7 @@ impl<B: Builder> Deal<B> {
                     parts,
                 })
             }
-            Err(_) => Err(DealRefused {
-                builders,
-                fault: DealFault::Memory,
-            }),
+            Err(_) => Err(builders),
         }
     }
 
@@ -234,8 +252,8 @@ impl<B: Builder> Deal<B> {
     }
 
     /// Returns the number of workers.
-    pub fn workers(&self) -> usize
-        ensures { result ≡ self.now.workers }
+    pub fn workers(&self) -> Workers
+        ensures { result.number ≡ self.now.workers }
     {
         self.workers
     }
@@ -277,7 +295,7 @@ impl<B: Builder> Deal<B> {
         if make_room(&mut self.seats, slot).is_err() {
             return Err(AddRefused { builder, fault });
         }
-        match self.parts[slot % self.workers].add(slot, builder) {
+        match self.parts[slot % self.workers.number].add(slot, builder) {
             Ok(()) => {
                 seat_next(&mut self.seats, slot, self.workers);
                 self.slots += 1;
@@ -366,6 +384,7 @@ impl<B: Builder> Deal<B> {
     /// Returns the part of each worker, in order. Allocates nothing, and never fails.
     pub fn into_parts(self) -> Result<Vec<Part<B>>, (Deal<B>, AllocError)>
         ensures ok { IsOk result }
+        ensures few { IfOk result (λ parts. length parts.items ≤ 64) }
         ensures parts { IfOk result (λ parts. AreShares self parts.items) }
         ensures of_deal { IfOk result (λ parts. IsDeal self × All (IsPartOf B.value B.after B.outcome self) parts.items) }
         ensures handed_back { IfErr result (λ e. e.0 ≡ self) }
@@ -386,12 +405,13 @@ impl<B: Builder> Deal<B> {
 // Returns the seats of the slots whose numbers fit in a `u32`, and a list with room for one part.
 fn prepare_alone<B: Builder>(
     alloc: Global,
+    one: Workers,
     slots: usize,
 ) -> Result<(Vec<Seat>, Vec<Part<B>>), AllocError>
-    ensures seats { IfOk result (λ r. AreSeats 1 r.0.items × (length r.0.items ≡ min slots (2 ^ 32))) }
+    ensures seats { IfOk result (λ r. AreSeats one.number r.0.items × (length r.0.items ≡ min slots (2 ^ 32))) }
     ensures parts { IfOk result (λ r. (r.1.items ≡ []) × (1 ≤ vec_capacity r.1)) }
 {
-    let seats = make_seats(alloc, 1, slots.min(4_294_967_296))?;
+    let seats = make_seats(alloc, one, slots.min(4_294_967_296))?;
     let parts = Vec::with_capacity(alloc, 1)?;
     Ok((seats, parts))
 }
@@ -400,20 +420,19 @@ fn prepare_alone<B: Builder>(
 // room for the parts.
 fn prepare<B: Builder>(
     alloc: Global,
-    workers: usize,
+    workers: Workers,
     slots: usize,
 ) -> Result<(Vec<Seat>, Vec<Vec<B>>, Vec<Part<B>>), AllocError>
-    requires some { 0 < workers }
-    requires most { workers ≤ 64 }
-    requires small { slots + workers < 2 ^ 64 }
-    ensures seats { IfOk result (λ r. AreSeats workers r.0.items × (length r.0.items ≡ min slots (2 ^ 32))) }
-    ensures rows { IfOk result (λ r. (length r.1.items ≡ workers) ×
-        ((k : ℕ) (d : _) → k < workers → ((slice_index_or r.1.items k d).items ≡ []) × (slots ≤ vec_capacity (slice_index_or r.1.items k d) * workers))) }
-    ensures parts { IfOk result (λ r. (r.2.items ≡ []) × (workers ≤ vec_capacity r.2)) }
+    requires small { slots + workers.number < 2 ^ 64 }
+    ensures seats { IfOk result (λ r. AreSeats workers.number r.0.items × (length r.0.items ≡ min slots (2 ^ 32))) }
+    ensures rows { IfOk result (λ r. (length r.1.items ≡ workers.number) ×
+        ((k : ℕ) (d : _) → k < workers.number → ((slice_index_or r.1.items k d).items ≡ []) × (slots ≤ vec_capacity (slice_index_or r.1.items k d) * workers.number))) }
+    ensures parts { IfOk result (λ r. (r.2.items ≡ []) × (workers.number ≤ vec_capacity r.2)) }
 {
+    let number = workers.number;
     let seats = make_seats(alloc, workers, slots.min(4_294_967_296))?;
-    let rows = make_rows(alloc, workers, slots / workers + 1)?;
-    let parts = Vec::with_capacity(alloc, workers)?;
+    let rows = make_rows(alloc, number, slots / number + 1)?;
+    let parts = Vec::with_capacity(alloc, number)?;
     Ok((seats, rows, parts))
 }
 

@@ -23,6 +23,7 @@ mod parts;
 mod seats;
 mod spread;
 mod spreads;
+mod workers;
 
 pub use again::{deal_again, outcomes_in_parts, parts_end};
 pub use dealing::{AddFault, AddRefused, Deal, DealFault, DealRefused, deal_theorem, slots_alone};
@@ -30,6 +31,7 @@ pub use joining::{JoinFault, JoinRefused, Joined, join_parts};
 pub use parts::{Part, run_part};
 pub use seats::Seats;
 pub use spreads::{Spare, Spread};
+pub use workers::Workers;
 
 /// Something that is built item by item. By the clauses of `apply`, the value after an item and the item's outcome are functions of the
 /// value before and of the item.

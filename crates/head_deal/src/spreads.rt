@@ -65,9 +65,10 @@ impl<I: Drop> Spread<I> {
     ) -> Result<Spread<I>, AllocError>
         ensures { IfOk result (λ s. s ≡ record { workers = seats.now.workers; items = [] }) }
     {
-        let lists = empty_lists(alloc, spare.lists, seats.workers)?;
+        let workers = seats.workers.number;
+        let lists = empty_lists(alloc, spare.lists, workers)?;
         Ok(Spread {
-            workers: seats.workers,
+            workers,
             count: 0,
             lists,
         })

@@ -8,7 +8,7 @@ use Rattle.std.specs.declared.io.traits.Write as Write
 use Rattle.std.specs.declared.sync.ledger.Ledger as Ledger
 use Rattle.std.proofs.sync.ledger.Book.TheSendSync as Book
 use Rattle.std.proofs.sync.ledger.Share.TheSendSync as Share
-use Rattle.logged_head.proofs.Sends.{Live-send}
+use Rattle.head_live.proofs.LogSends.{Live-send}
 use Rattle.head_live.specs.declared.run.HeadRun as HeadRun
 use Rattle.head_live.specs.contracts.held.Held as Held
 use Rattle.head_live.specs.contracts.held.Held.TheInside as InsideHeld

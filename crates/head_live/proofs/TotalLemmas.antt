@@ -1,8 +1,8 @@
 -- The total of a run that can be closed.
 use Rattle.std.proofs.Common.{◌≡◌, ℕ, ◌+◌, ◌^◌, ◌<◌, ◌≤◌, List, MatchOption, Option, Some, None, ap, arith}
 use Rattle.head_live.specs.Closing.{Closes, shares}
-use Rattle.logged_head.specs.Moments.{LiveState, Moment}
-use Rattle.head_judging.specs.Told.{AppenderState}
+use Rattle.head_live.specs.Moments.{LiveState, Moment}
+use Rattle.head_live.specs.Told.{AppenderState}
 
 -- where a run can be closed, the total is known, and is the growth of the count
 pub closable_total : (opening : Moment) (live : LiveState) (accepted growth book : ℕ) (total : Option ℕ) (appenders : List AppenderState) → Closes opening live accepted appenders

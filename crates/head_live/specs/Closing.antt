@@ -1,9 +1,9 @@
 -- What it means that a run of a shared head is closed.
 use Rattle.std.specs.Prelude.{◌≡◌, ℕ, ◌+◌, List}
 use Rattle.std.specs.List.{sum_by}
-use Rattle.head_answers.specs.Agreeing.{Agrees, all_told}
-use Rattle.logged_head.specs.Moments.{Leads, LiveState, Moment}
-use Rattle.head_judging.specs.Told.{AppenderState}
+use Rattle.head_live.specs.Agreeing.{Agrees, all_told}
+use Rattle.head_live.specs.Moments.{Leads, LiveState, Moment}
+use Rattle.head_live.specs.Told.{AppenderState}
 
 -- the sum of the shares of appenders
 abbrev pub shares : List AppenderState → ℕ

@@ -1,1 +1,13 @@
+pub mod Rows
+pub mod Sets
+pub mod Refused
+pub mod Verdicts
+pub mod Batch
+pub mod Judged
+pub mod Faults
+pub mod Told
+pub mod Placed
+pub mod Agreeing
+pub mod Placing
+pub mod Moments
 pub mod Closing

@@ -2,14 +2,14 @@
 
 ghost use Rattle.std.specs.Prelude.{◌≡◌, IfOk, false, true};
 ghost use Rattle.head_core.specs.Content.{Content};
-ghost use Rattle.head_answers.specs.Agreeing.{Agrees, all_told};
-ghost use Rattle.head_answers.specs.Placing.{sample_counts};
+ghost use Rattle.head_live.specs.Agreeing.{Agrees, all_told};
+ghost use Rattle.head_live.specs.Placing.{sample_counts};
 
 use crate::appender::Appender;
+use crate::placed::are_same;
+use crate::placing::{new_samples, place_rows};
 use crate::run::HeadRun;
-use head_answers::{new_samples, place_rows};
 use head_core::Head;
-use head_judging::are_same;
 use std::alloc::{AllocError, Global};
 
 /// Returns whether the accepted rows of all appenders are exactly the samples of the head past the opening, each once, the series of

@@ -1,10 +1,10 @@
 //! The appender of one thread: its answered rows, and its share of the accepted ones.
 
 ghost use Rattle.std.specs.Prelude.{◌≡◌, map};
-ghost use Rattle.head_judging.specs.Told.{answer_of};
+ghost use Rattle.head_live.specs.Told.{answer_of};
 
 use crate::run::HeadRun;
-use head_judging::Told;
+use crate::told::Told;
 use std::alloc::AllocError;
 use std::marker::Model;
 use std::sync::ledger::Share;
@@ -19,7 +19,7 @@ pub struct Appender<K: HeadRun> {
 
 impl<K: HeadRun> Model for Appender<K> {
     ghost use Rattle.std.specs.Prelude.{◌≡◌, length, map};
-    ghost use Rattle.head_judging.specs.Told.{AppenderState, accepted_rows, answer_of};
+    ghost use Rattle.head_live.specs.Told.{AppenderState, accepted_rows, answer_of};
 
     ghost Value = { AppenderState };
 

@@ -6,13 +6,13 @@ use std::sync::ledger::Ledger;
 /// A run of a shared head: the ledger of its tokens, and the moment of the live head when it began. The trait has no methods. Generic
 /// functions are proved for every run, and callers use `Brand`.
 pub trait HeadRun: Ledger {
-    ghost use Rattle.logged_head.specs.Moments.{Moment};
+    ghost use Rattle.head_live.specs.Moments.{Moment};
 
     ghost opening: { Moment };
 }
 
 impl HeadRun for Brand {
-    ghost use Rattle.logged_head.specs.Moments.{no_moment};
+    ghost use Rattle.head_live.specs.Moments.{no_moment};
 
     ghost opening = { no_moment };
 }

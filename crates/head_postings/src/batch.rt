@@ -6,9 +6,10 @@ ghost use Rattle.head_postings.specs.Room.{IsCountOf};
 
 use crate::names::Names;
 use hash_seed::HashSeed;
+use series_references::Slot;
 use std::alloc::{AllocError, Global};
 use std::marker::Model;
-use wal_record::{LabelSet, Slot};
+use wal_record::LabelSet;
 
 /// Counts of the label sets of the series that a batch adds, by label: how many slots each list will take.
 #[derive(Debug)]

@@ -10,9 +10,10 @@ ghost use Rattle.head_postings.specs.Slots.{IsAscending, IsUnion};
 use crate::values::Values;
 use hash_seed::HashSeed;
 use indexmap::IndexMap;
+use series_references::Slot;
 use std::alloc::{AllocError, Global};
 use std::marker::Model;
-use wal_record::{LabelSet, Slot};
+use wal_record::LabelSet;
 
 /// For each name, the slots of each value.
 #[derive(Debug, Drop)]

@@ -9,9 +9,10 @@ use crate::batch::Batch;
 use crate::names::Names;
 use crate::union::united;
 use hash_seed::HashSeed;
+use series_references::Slot;
 use std::alloc::{AllocError, Global};
 use std::marker::Model;
-use wal_record::{LabelSet, Slot};
+use wal_record::LabelSet;
 
 /// Postings: for each label, a name with a value, the ascending list of the slots whose label set has it, and the list of all
 /// slots, as the postings of index.md. Contracts see `Lists`: `all`, and what is `selected` at each name and value.

@@ -3,8 +3,8 @@
 ghost use Rattle.std.specs.Prelude.{IfOk};
 ghost use Rattle.head_postings.specs.Slots.{IsAscending, IsUnion};
 
+use series_references::Slot;
 use std::alloc::{AllocError, Global};
-use wal_record::Slot;
 
 // Returns the union of two ascending lists, in linear time.
 pub(crate) fn united(

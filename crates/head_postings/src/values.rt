@@ -8,9 +8,9 @@ ghost use Rattle.head_postings.specs.Slots.{IsAscending, IsUnion};
 use crate::union::united;
 use hash_seed::HashSeed;
 use indexmap::IndexMap;
+use series_references::Slot;
 use std::alloc::{AllocError, Global};
 use std::marker::Model;
-use wal_record::Slot;
 
 /// For each value of one name, its slots.
 #[derive(Debug, Drop)]

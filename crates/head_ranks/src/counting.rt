@@ -14,8 +14,8 @@ use crate::counts::{LabelCount, Totals};
 use hash_seed::HashSeed;
 use head_core::Head;
 use indexmap::IndexSet;
+use series_references::Slot;
 use std::alloc::{AllocError, Global};
-use wal_record::Slot;
 
 // A label, borrowed from a head.
 #[derive(Clone, Copy, Debug, PartialEq, Eq, Hash)]

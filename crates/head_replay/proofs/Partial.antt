@@ -13,7 +13,7 @@ use Rattle.head_postings.specs.Slots.{AreAbove, AreBelow, AreOfBoth, IsAscending
 use Rattle.head_postings.specs.Postings.{IsMergeOf, IsPostingsOf, Lists, slots}
 use Rattle.head_core.specs.Content.{by_slot}
 use Rattle.head_core.proofs.Numbered.{one_more}
-use Rattle.head_crew.specs.Jobs.{AreDone}
+use Rattle.crew.specs.Jobs.{AreDone}
 use Rattle.head_replay.specs.Partial.{belonging, AreNumbered}
 use Rattle.head_replay.specs.declared.postings.Listing.{Listing}
 
@@ -187,8 +187,8 @@ abbrev pub IsListed : ℕ → List Labels → ℕ → Listing → Type 0
 IsListed workers series worker job = IsPostingsOf (belonging workers worker (worker + 1) (by_slot series)) job.postings
 
 -- each worker listed its own slots
-pub all_listed : (workers first : ℕ) (table : Table) (before after : List Listing) → AreNumbered (λ worker job. (job.worker ≡ worker) × (job.workers ≡ workers) × (job.table.now ≡ table)) first before
-    → AreDone (λ old new. IsPostingsOf (belonging old.workers old.worker (old.worker + 1) (by_slot old.table.now.series)) new.postings) before after
+pub all_listed : (workers first : ℕ) (table : Table) (before after : List Listing) → AreNumbered (λ worker job. (job.worker ≡ worker) × (job.workers.number ≡ workers) × (job.table.now ≡ table)) first before
+    → AreDone (λ old new. IsPostingsOf (belonging old.workers.number old.worker (old.worker + 1) (by_slot old.table.now.series)) new.postings) before after
     → AreNumbered (IsListed workers table.series) first after
 all_listed workers first table before [] h k = tt
 all_listed workers first table [] (a ∷ more) h k = let e : length (a ∷ more) ≡ 0 = k.long in absurd cc
@@ -199,7 +199,7 @@ all_listed workers first table (b ∷ before) (a ∷ more) h k =
     let own = h.0 in (
       subst (λ (t : Table). IsPostingsOf (belonging workers first (first + 1) (by_slot t.series)) a.postings) own.2
           (subst (λ (n : ℕ). IsPostingsOf (belonging n first (first + 1) (by_slot b.table.now.series)) a.postings) own.1
-          (subst (λ (w : ℕ). IsPostingsOf (belonging b.workers w (w + 1) (by_slot b.table.now.series)) a.postings) own.0 done)),
+          (subst (λ (w : ℕ). IsPostingsOf (belonging b.workers.number w (w + 1) (by_slot b.table.now.series)) a.postings) own.0 done)),
       rest,
     )
 

@@ -1,6 +1,6 @@
 -- Conversions of faults.
-use Rattle.head_rounds.specs.declared.fault.RoundFault.{RoundFault}
-use Rattle.head_rounds.specs.declared.fault.RoundFault.TheVariants.{Full, Memory, Workers}
+use Rattle.replay_rounds.specs.declared.fault.RoundFault.{RoundFault}
+use Rattle.replay_rounds.specs.declared.fault.RoundFault.TheVariants.{Full, Memory, Workers}
 use Rattle.head_replay.specs.declared.fault.ReplayFault.{ReplayFault}
 use Rattle.head_replay.specs.declared.fault.ReplayFault.TheVariants as replay
 

@@ -1,2 +1,5 @@
+pub mod Standing
+pub mod Taken
+pub mod Taking
 pub mod Faults
 pub mod Partial

@@ -1,7 +1,7 @@
 //! Errors of a replay.
 
-use head_crew::CrewFault;
-use head_rounds::RoundFault;
+use crew::CrewFault;
+use replay_rounds::RoundFault;
 use std::alloc::AllocError;
 use std::error::Error;
 use std::fmt;
@@ -52,7 +52,7 @@ impl From<RoundFault> for ReplayFault {
 
 impl From<CrewFault> for ReplayFault {
     ghost use Rattle.std.specs.Prelude.{◌≡◌};
-    ghost use Rattle.head_rounds.specs.Faults.{crew_fault};
+    ghost use Rattle.replay_rounds.specs.Faults.{crew_fault};
     ghost use Rattle.head_replay.specs.Faults.{replay_fault};
 
     ghost from_gives = { λ f e. e ≡ replay_fault (crew_fault f) };

@@ -5,7 +5,8 @@ ghost use Rattle.head_postings.specs.Postings.{IsPostingsOf, Labels};
 ghost use Rattle.head_core.specs.Content.{by_slot};
 ghost use Rattle.head_replay.specs.Partial.{belonging, AreNumbered};
 
-use head_crew::{Crew, CrewFault, Gate, Job};
+use crew::{Crew, CrewFault, Gate, Job};
+use head_deal::Workers;
 use head_postings::Postings;
 use head_series::{SeriesTable, Slot};
 use std::alloc::{AllocError, Global};
@@ -16,19 +17,18 @@ use std::thread::Threads;
 fn partial(
     alloc: Global,
     worker: usize,
-    workers: usize,
+    workers: Workers,
     table: &SeriesTable,
 ) -> Result<Postings, AllocError>
-    requires one { worker < workers }
-    requires most { workers ≤ 64 }
-    ensures postings { IfOk result (λ postings. IsPostingsOf (belonging workers worker (worker + 1) (by_slot table.now.series)) postings) }
+    requires { worker < workers.number }
+    ensures postings { IfOk result (λ postings. IsPostingsOf (belonging workers.number worker (worker + 1) (by_slot table.now.series)) postings) }
 {
     let mut postings = Postings::with_seed(alloc, table.seed());
     let mut number = worker;
     while number < table.len() {
         let slot = Slot::new(number as u32);
         postings.add(slot, &table.labels(slot)?)?;
-        number += workers;
+        number += workers.number;
     }
     Ok(postings)
 }
@@ -38,15 +38,14 @@ fn partial(
 pub(crate) struct Listing<'t> {
     alloc: Global,
     worker: usize,
-    workers: usize,
+    workers: Workers,
     table: &'t SeriesTable,
     postings: Postings,
-    ghost one: { worker < workers },
-    ghost most: { workers ≤ 64 },
+    ghost one: { worker < workers.number },
 }
 
 impl<'t> Job for Listing<'t> {
-    ghost done = { λ old new. IsPostingsOf (belonging old.workers old.worker (old.worker + 1) (by_slot old.table.now.series)) new.postings };
+    ghost done = { λ old new. IsPostingsOf (belonging old.workers.number old.worker (old.worker + 1) (by_slot old.table.now.series)) new.postings };
 
     // these jobs call no gate
     fn enter<G: Gate>(_gate: &G, _worker: usize, _turn: u64) {}
@@ -60,15 +59,14 @@ impl<'t> Job for Listing<'t> {
 // Returns a job for each worker, in order.
 fn listings<'t>(
     alloc: Global,
-    workers: usize,
+    workers: Workers,
     table: &'t SeriesTable,
 ) -> Result<Vec<Listing<'t>>, AllocError>
-    requires most { workers ≤ 64 }
-    ensures each { IfOk result (λ jobs. AreNumbered (λ worker job. (job.worker ≡ worker) × (job.workers ≡ workers) × (job.table.now ≡ table.now)) 0 jobs.items) }
-    ensures count { IfOk result (λ jobs. vec_len jobs ≡ workers) }
+    ensures each { IfOk result (λ jobs. AreNumbered (λ worker job. (job.worker ≡ worker) × (job.workers.number ≡ workers.number) × (job.table.now ≡ table.now)) 0 jobs.items) }
+    ensures count { IfOk result (λ jobs. vec_len jobs ≡ workers.number) }
 {
-    let mut jobs = Vec::with_capacity(alloc, workers)?;
-    for worker in 0..workers {
+    let mut jobs = Vec::with_capacity(alloc, workers.number)?;
+    for worker in 0..workers.number {
         let postings = Postings::new(alloc);
         jobs.push(Listing {
             alloc,
@@ -115,11 +113,9 @@ fn merge_all(alloc: Global, mut jobs: Vec<Listing<'_>>) -> Result<Postings, Allo
 pub fn postings_by<R: Threads + Wait + Sync, G: Gate + Sync>(
     crew: &Crew<'_, R, G>,
     alloc: Global,
-    workers: usize,
+    workers: Workers,
     table: &SeriesTable,
 ) -> Result<Postings, CrewFault>
-    requires some { 0 < workers }
-    requires most { workers ≤ 64 }
     ensures postings { IfOk result (λ postings. IsPostingsOf (by_slot table.now.series) postings) }
 {
     let jobs = listings(alloc, workers, table)?;

@@ -6,6 +6,7 @@ pub mod Steps
 pub mod Resolved
 pub mod Validity
 pub mod Resolving
+pub mod Resolution
 pub mod Changes
 pub mod Links
 pub mod Ahead

@@ -108,7 +108,7 @@ impl Resolver {
     }
 
     /// Binds the references of the series entries of the next record of a window of the log, ahead of the records before it, and adds to
-    /// `changes` what each named before. Counts nothing: the records of the window are taken by `spread_at` and `take_ahead`.
+    /// `changes` what each named before. Counts nothing: the records of the window are taken by `spread_at` and `add_counts_ahead`.
     ///
     /// Returns `Full` if a series or a label text would pass its limit, and `Memory` if out of memory. The resolver has then failed, and
     /// this returns `Failed` from then on. The changes are then of no use.
@@ -299,7 +299,7 @@ impl Resolver {
     /// resolver. Allocates nothing.
     ///
     /// Returns `Full` if a count would pass its limit. The resolver has then failed, and this returns `Failed` from then on.
-    pub fn take_ahead(&mut self, counts: &Counts) -> Result<(), HeadFault>
+    pub fn add_counts_ahead(&mut self, counts: &Counts) -> Result<(), HeadFault>
         ensures taken { (t : Taken) (front rs back : List LogRecord) (cs : List Change) (items : List (ℕ × AnItem)) → IsAhead t front (rs ++ back) cs self.old →
             AreSpreadAt self.old.min_valid (slot_before cs (slot_at self.old.table)) (length front) rs items counts.now → OnOk result (IsAhead t (front ++ rs) back cs self.new) }
         ensures items { (t : Taken) (front rs back : List LogRecord) (cs : List Change) (items : List (ℕ × AnItem)) → IsAhead t front (rs ++ back) cs self.old →

@@ -19,5 +19,5 @@ pub use interner::{InternFault, Interner};
 pub use laws::{greatest_reference, least_reference, room_for_first, slot_is_place};
 pub use plan::Plan;
 pub use ready::Ready;
+pub use series_references::Slot;
 pub use table::{BindFault, Bound, SeriesTable};
-pub use wal_record::Slot;

@@ -13,12 +13,12 @@ use crate::ready::Ready;
 use crate::rows::{Row, last_numbers, last_with, note_last};
 use hash_seed::HashSeed;
 use indexmap::IndexMap;
-use series_references::{Heap, References, with_reference};
+use series_references::{Heap, References, Slot, with_reference};
 use std::alloc::{AllocError, Global};
 use std::error::Error;
 use std::fmt;
 use std::marker::Model;
-use wal_record::{LabelSet, Slot};
+use wal_record::LabelSet;
 
 /// An error of a table: why a reference was not bound.
 #[derive(Clone, Copy, Debug, PartialEq, Eq)]

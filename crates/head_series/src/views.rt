@@ -10,10 +10,10 @@ use crate::comparing::compare_numbers;
 use crate::rows::{copied_rows, is_named, last_with};
 use crate::table::SeriesTable;
 use hash_seed::HashSeed;
-use series_references::copied;
+use series_references::{Slot, copied};
 use std::alloc::AllocError;
 use std::cmp::Ordering;
-use wal_record::{LabelFault, LabelSet, Slot};
+use wal_record::{LabelFault, LabelSet};
 
 impl SeriesTable {
     /// Returns the number of series. The clauses `distinct` and `ordered` say what holds of the series of every table.

@@ -97,7 +97,7 @@ fn steps<B: Fresh>(
 ) -> Result<Vec<Stepped<Outcome>>, AllocError> {
     let mut told = Vec::new(alloc);
     for worker in workers {
-        if deal.workers() <= *worker {
+        if deal.workers().number <= *worker {
             return Err(AllocError);
         }
         told.push(deal.step(*worker)?)?;

@@ -3,6 +3,7 @@
 use crate::log_lines::{NO_FILES, input_of};
 use crate::logs::by;
 use crate::same;
+use head_deal::Workers;
 use head_replay::{Crew, CrewFault, NoGate, ReplayFault, Starts, postings_by, replay_by, tally_by};
 use head_series::SeriesTable;
 use std::alloc::Global;
@@ -16,7 +17,7 @@ fn fault_of_postings<R: Threads + Wait + Sync>(
     alloc: Global,
 ) -> Option<CrewFault> {
     let table = SeriesTable::new(alloc, 1);
-    match postings_by(crew, alloc, 7, &table) {
+    match postings_by(crew, alloc, Workers::new(7)?, &table) {
         Ok(_) => None,
         Err(fault) => Some(fault),
     }

@@ -1,1 +1,3 @@
 pub mod Stretched
+pub mod Recorded
+pub mod Unlimited

@@ -11,17 +11,17 @@ use Rattle.wal_log.specs.Inputs.{Files}
 use Rattle.wal_log.specs.Log.{LogFile, log_files}
 use Rattle.wal_log.specs.Plan.{NumberedName}
 use Rattle.wal_log.specs.Text.{pieces_at, text_from}
-use Rattle.wal_stretches.specs.declared.stretch.Ending.{Ending}
-use Rattle.wal_stretches.specs.declared.stretch.Ending.TheVariants.{Damage, FileEnd, Hole as HoleEnd}
-use Rattle.wal_stretches.specs.Stretches.{StretchPieceValue, StretchValue}
-use Rattle.log_unpacking.specs.declared.unpacking.UnpackedRecord.{UnpackedRecord}
-use Rattle.log_unpacking.specs.Salvage.{Event, Give, IsEventOf, PassedOver, Taken, ended_by, next_begin, record_of, records_in}
-use Rattle.log_unpacking.specs.Texts.{bytes_of}
-use Rattle.prom_store.specs.Views.{View}
-use Rattle.log_source.specs.declared.lost.Lost.{Lost}
-use Rattle.log_source.specs.declared.lost.LostPart.{LostPart}
-use Rattle.log_source.specs.Rescued.{AreRescuedIn, IsRescuedCheckpoint, IsRescuedIn, IsRescuedLogIn, SlotValue, checkpoint_slots}
-use Rattle.block_commands.specs.Records.{HasJust, HaveJust, IsLogOf, SpellsOne}
+use Rattle.wal_unpack.specs.declared.stretch.Ending.{Ending}
+use Rattle.wal_unpack.specs.declared.stretch.Ending.TheVariants.{Damage, FileEnd, Hole as HoleEnd}
+use Rattle.wal_unpack.specs.Stretches.{StretchPieceValue, StretchValue}
+use Rattle.wal_unpack.specs.declared.unpacking.UnpackedRecord.{UnpackedRecord}
+use Rattle.wal_unpack.specs.Salvage.{Event, Give, IsEventOf, PassedOver, Taken, ended_by, next_begin, record_of, records_in}
+use Rattle.wal_unpack.specs.Texts.{bytes_of}
+use Rattle.store.specs.Views.{View}
+use Rattle.log_directory.specs.declared.lost.Lost.{Lost}
+use Rattle.log_directory.specs.declared.lost.LostPart.{LostPart}
+use Rattle.log_directory.specs.Rescued.{AreRescuedIn, IsRescuedCheckpoint, IsRescuedIn, IsRescuedLogIn, SlotValue, checkpoint_slots}
+use Rattle.headline.specs.Records.{HasJust, HaveJust, IsLogOf, SpellsOne}
 use Rattle.headline.specs.Stretched.{AreOfCheckpoint, AreOfFile, AreOfFiles, HasStretches}
 
 -- ---- the records of events spell

@@ -1,1 +1,2 @@
 pub mod Stretched
+pub mod Records

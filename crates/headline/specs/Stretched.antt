@@ -4,12 +4,12 @@ use Rattle.std.specs.Option.{option_map}
 use Rattle.std.specs.Path.{path_join}
 use Rattle.wal_log.specs.declared.input.Segment.{Segment}
 use Rattle.wal_log.specs.Plan.{NumberedName}
-use Rattle.log_unpacking.specs.Salvage.{Event, IsSalvageOf, records_in}
-use Rattle.log_unpacking.specs.Texts.{bytes_of}
-use Rattle.log_listing.specs.Listings.{AreListed, IsListing, IsReadIn}
-use Rattle.prom_store.specs.Views.{View}
-use Rattle.prom_store.specs.declared.store.Unread.{Unread}
-use Rattle.log_source.specs.Rescued.{SlotValue, checkpoint_slots, segment_slots}
+use Rattle.wal_unpack.specs.Salvage.{Event, IsSalvageOf, records_in}
+use Rattle.wal_unpack.specs.Texts.{bytes_of}
+use Rattle.log_directory.specs.Listings.{AreListed, IsListing, IsReadIn}
+use Rattle.store.specs.Views.{View}
+use Rattle.store.specs.declared.store.Unread.{Unread}
+use Rattle.log_directory.specs.Rescued.{SlotValue, checkpoint_slots, segment_slots}
 
 -- The bytes of the records of all stretches of a file in a directory, as far as it can be read. A missing file has none.
 abbrev pub AreOfFile : View → List ℕ → ℕ → Option (List ℕ) → List (List ℕ) → Type 0

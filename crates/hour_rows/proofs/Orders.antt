@@ -10,8 +10,8 @@ use Rattle.std.specs.declared.cmp.Ordering.TheVariants.{Less, Equal, Greater}
 use Rattle.std.proofs.lemmas.Cmp.{tied_itself}
 use Rattle.std.proofs.lemmas.List.Recursion.{is_sum_by}
 use Rattle.std.proofs.lemmas.List.Sorted.{Contains-permutation, IsPermutation-sym, sum_by-IsPermutation}
-use Rattle.index_parts.specs.Sets.{with_one, ascending}
-use Rattle.index_parts.proofs.Ranks.{Has, IsAscending, IsBefore, IsOrder, IsStrictOrder, ascending-is, ascending-of, same_ascending}
+use Rattle.index_text.specs.Sets.{with_one, ascending}
+use Rattle.index_text.proofs.Ranks.{Has, IsAscending, IsBefore, IsOrder, IsStrictOrder, ascending-is, ascending-of, same_ascending}
 
 reverse_less : (o p : Ordering) → o ≡ ordering_reverse p → p ≡ Less → is_lt o ≡ false
 reverse_less o p e f = ap is_lt (e ∙ ap ordering_reverse f)

@@ -22,9 +22,9 @@ use Rattle.head_column.specs.Samples.{Rises}
 use Rattle.head_series.specs.Rows.{AreDistinct}
 use Rattle.head_core.specs.Content.{Content}
 use Rattle.head_core.specs.Heads.{history_at}
-use Rattle.index_parts.specs.Rows.{IsChain}
-use Rattle.index_parts.specs.Sets.{ascending}
-use Rattle.index_parts.proofs.Ranks.{Has, IsAscending, ascending-is, ascending-of}
+use Rattle.index_text.specs.Rows.{IsChain}
+use Rattle.index_text.specs.Sets.{ascending}
+use Rattle.index_text.proofs.Ranks.{Has, IsAscending, ascending-is, ascending-of}
 use Rattle.block_files.specs.declared.encoding.Encoding.{Encoding}
 use Rattle.block_files.specs.declared.encoding.Encoding.TheVariants.{Raw}
 use Rattle.block_read.specs.declared.rows.BlockRow.{BlockRow}

@@ -3,7 +3,7 @@ use Rattle.std.specs.Prelude.{ℤ, Bool, not, List, map, filter, length, ◌==�
 use Rattle.std.specs.List.{zip}
 use Rattle.wal_record.specs.Labels.{Labels, compare_labels}
 use Rattle.head_column.specs.Histories.{History}
-use Rattle.index_parts.specs.Sets.{ascending}
+use Rattle.index_text.specs.Sets.{ascending}
 use Rattle.head_core.specs.Content.{Content}
 use Rattle.block_read.specs.declared.rows.BlockRow.{BlockRow}
 use Rattle.hour_rows.specs.Clipping.{samples_in, runs_in}

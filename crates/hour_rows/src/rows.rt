@@ -12,13 +12,13 @@ ghost use Rattle.head_core.specs.Heads.{history_at};
 ghost use Rattle.hour_rows.specs.Clipping.{clip, runs_in, samples_in};
 ghost use Rattle.hour_rows.specs.Chunked.{IsHistory, in_chunks, row_at};
 ghost use Rattle.hour_rows.specs.Rows.{rows_of};
-ghost use Rattle.index_parts.specs.Rows.{IsChain};
+ghost use Rattle.index_text.specs.Rows.{IsChain};
 ghost use Rattle.block_files.specs.declared.encoding.Encoding.TheVariants.{Xor};
 ghost use Rattle.block_read.specs.Blocks.{IsRowOf, chunks_in, hour_last};
 
 use crate::chunks::{all_fit, between, xor_chunks_of};
 use block_files::Encoding;
-use head_column::{Chunk, Hour, Run};
+use head_column::{Chunk, HOUR_LENGTH, Hour, Run};
 use head_core::Head;
 use head_series::Slot;
 use hw_bytes::Items;
@@ -26,9 +26,6 @@ use rayon::prelude::*;
 use std::alloc::{AllocError, Global};
 use std::thread::Threads;
 use wal_record::LabelSet;
-
-// the length of an hour in milliseconds
-const HOUR_LENGTH: i64 = 3_600_000;
 
 /// A series in an hour, with its samples in chunks.
 #[derive(Debug)]

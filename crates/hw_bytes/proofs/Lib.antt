@@ -10,3 +10,4 @@ pub mod Lists
 pub mod Shortest
 pub mod Greatest
 pub mod Places
+pub mod SumLaws

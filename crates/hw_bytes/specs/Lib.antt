@@ -4,3 +4,5 @@ pub mod Numbers
 pub mod Reading
 pub mod Writing
 pub mod Lists
+pub mod Padding
+pub mod Sums

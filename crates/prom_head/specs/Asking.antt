@@ -1,10 +1,10 @@
 -- What a command line asks for, where a data directory may give its least valid time.
 use Rattle.std.specs.Prelude.{◌≡◌, ◌⊎◌, ℤ, Option, None, Some, true, MatchOption}
-use Rattle.prom_store.specs.Views.{View}
-use Rattle.prom_line.specs.Least.{from_least}
-use Rattle.prom_line.specs.declared.asked.Asked.{Asked}
-use Rattle.prom_line.specs.declared.asked.CommandLine.{CommandLine}
-use Rattle.server_blocks.specs.Servers.{IsLeastValidOf}
+use Rattle.store.specs.Views.{View}
+use Rattle.command_line.specs.Least.{from_least}
+use Rattle.command_line.specs.declared.asked.Asked.{Asked}
+use Rattle.command_line.specs.declared.asked.CommandLine.{CommandLine}
+use Rattle.log_directory.specs.Servers.{IsLeastValidOf}
 
 -- The least valid time that the blocks of a data directory give. There is none if the line has no such directory, or if that is only the one
 -- that the log is in.

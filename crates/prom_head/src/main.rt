@@ -6,8 +6,8 @@ mod naming;
 mod program;
 
 use crate::program::run;
-use prom_commands::{Answer, Meter};
-use prom_store::{Disk, LineFault, Status, Store};
+use answers::{Answer, LineFault, Status};
+use progress::Meter;
 use std::env;
 use std::io::{ErrorKind, IsTerminal};
 use std::process::ExitCode;
@@ -16,6 +16,7 @@ use std::rt::Env;
 use std::sync::Wait;
 use std::thread::Threads;
 use std::time::Clock;
+use store::{Disk, Store};
 
 // Collects the words of the command line. The first one is the program's name.
 fn arguments<R: Env + AllocGlobal>(rt: &R) -> Result<Vec<String>, LineFault> {

@@ -5,7 +5,7 @@ use std::alloc::{AllocError, Global};
 use std::random::RandomSource;
 use std::time::{Clock, SystemTime, UNIX_EPOCH};
 
-// Returns the milliseconds since 1970, or `None` if the clock tells no such time.
+// Returns the milliseconds since 1970, or `None` if the clock gives no such time.
 fn millis_now(rt: &impl Clock) -> Option<u64> {
     let now = SystemTime::now(rt).ok()?;
     let since = now.duration_since(UNIX_EPOCH).ok()?;

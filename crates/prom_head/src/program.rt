@@ -1,26 +1,28 @@
 //! The program, over any store.
 
 ghost use Rattle.std.specs.Prelude.{IfOk};
-ghost use Rattle.prom_store.specs.Views.{view_of};
+ghost use Rattle.store.specs.Views.{view_of};
 ghost use Rattle.prom_head.specs.Asking.{GivesLeast, IsAskedIn};
 
 use crate::naming::name_of;
+use answers::{AnalyzeRequest, Answer, Fault, LineFault, Status};
 use block_commands::carry_out_block;
-use live_commands::{carry_out_append, carry_out_checkpoint};
-use prom_commands::{Answer, Progress, carry_out};
-use prom_files::clear_abandoned;
-use prom_line::{Asked, CommandLine, parse};
-use prom_store::{AnalyzeRequest, Fault, LineFault, Status, Store};
+use command_line::{Asked, CommandLine, parse};
+use inspect_command::carry_out_inspect;
+use log_commands::carry_out;
+use log_directory::min_valid_of;
+use new_files::clear_abandoned;
+use progress::Progress;
 use query_commands::{carry_out_analyze, carry_out_dump};
 use rescue_commands::{carry_out_blocks, carry_out_rescue};
-use server_blocks::min_valid_of;
 use std::alloc::Global;
 use std::random::RandomSource;
 use std::sync::Wait;
 use std::thread::Threads;
 use std::time::Clock;
-use survey_commands::carry_out_inspect;
-use unpack_commands::carry_out_unpack;
+use store::Store;
+use unpack_command::carry_out_unpack;
+use write_commands::{carry_out_append, carry_out_checkpoint};
 
 // Carries out what a command line asks for.
 fn carried_out<R: AllocGlobal + Threads + Wait + Sync, S: Store, P: Progress + Sync>(
@@ -51,7 +53,7 @@ fn carried_out<R: AllocGlobal + Threads + Wait + Sync, S: Store, P: Progress + S
     }
 }
 
-// Returns the least valid time that the blocks of a data directory give, if a command line has one. Those beside a log give none if they cannot
+// Returns the least valid time that the blocks of a data directory give, if a command line has one. Those next to a log give none if they cannot
 // be read: they are not asked for.
 fn least_of<S: Store>(
     alloc: Global,

@@ -1,1 +1,4 @@
+pub mod Dumped
+pub mod Growing
+pub mod RunSearch
 pub mod Requested

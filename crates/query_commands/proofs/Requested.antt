@@ -2,17 +2,17 @@
 use Rattle.std.proofs.Common.{◌≡◌, ℕ, ℤ, Bool, List, Option, Result, subst}
 use Rattle.std.specs.Prelude.{MatchResult}
 use Rattle.head_core.specs.Content.{Content}
-use Rattle.prom_store.specs.Views.{View}
-use Rattle.prom_store.specs.declared.damage.Flaw.{Flaw}
-use Rattle.prom_store.specs.declared.fault.Fault.{Fault}
-use Rattle.prom_store.specs.declared.requests.LogForm.{LogForm}
-use Rattle.head_dump.specs.declared.selection.Selection.{Selection}
-use Rattle.head_dump.specs.Dumps.{IsDump}
-use Rattle.prom_commands.specs.declared.commands.Answer.{Answer}
-use Rattle.prom_commands.specs.Answers.{TellsUpTo}
-use Rattle.prom_commands.specs.Replays.{IsReplayIn, slots_of}
-use Rattle.prom_commands.specs.Spellings.{SpellsPair}
-use Rattle.prom_commands.proofs.Answered.{up_to_more}
+use Rattle.store.specs.Views.{View}
+use Rattle.answers.specs.declared.damage.Flaw.{Flaw}
+use Rattle.answers.specs.declared.fault.Fault.{Fault}
+use Rattle.answers.specs.declared.requests.LogForm.{LogForm}
+use Rattle.query_commands.specs.declared.selection.Selection.{Selection}
+use Rattle.query_commands.specs.Dumps.{IsDump}
+use Rattle.answers.specs.declared.answer.Answer.{Answer}
+use Rattle.answers.specs.Answers.{TellsUpTo}
+use Rattle.log_directory.specs.Replays.{IsReplayIn, slots_of}
+use Rattle.answers.specs.Spellings.{SpellsPair}
+use Rattle.answers.proofs.Answered.{up_to_more}
 use Rattle.query_commands.specs.Requests.{IsDumpIn}
 
 -- the text of what was replayed is the dump of the log in the directory

@@ -1,2 +1,4 @@
+pub mod Selections
+pub mod Dumps
 pub mod Requests
 pub mod Shares

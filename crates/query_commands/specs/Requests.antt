@@ -1,13 +1,13 @@
 -- What is dumped of the log in a directory.
 use Rattle.std.specs.Prelude.{ℕ, ℤ, Bool, List, Option}
 use Rattle.head_core.specs.Content.{Content}
-use Rattle.prom_store.specs.Views.{View}
-use Rattle.prom_store.specs.declared.damage.Flaw.{Flaw}
-use Rattle.prom_store.specs.declared.requests.LogForm.{LogForm}
-use Rattle.prom_commands.specs.Replays.{IsReplayIn, slots_of}
-use Rattle.prom_commands.specs.Spellings.{SpellsPair}
-use Rattle.head_dump.specs.declared.selection.Selection.{Selection}
-use Rattle.head_dump.specs.Dumps.{IsDump}
+use Rattle.store.specs.Views.{View}
+use Rattle.answers.specs.declared.damage.Flaw.{Flaw}
+use Rattle.answers.specs.declared.requests.LogForm.{LogForm}
+use Rattle.log_directory.specs.Replays.{IsReplayIn, slots_of}
+use Rattle.answers.specs.Spellings.{SpellsPair}
+use Rattle.query_commands.specs.declared.selection.Selection.{Selection}
+use Rattle.query_commands.specs.Dumps.{IsDump}
 
 -- the text has a line for each sample that the selection shows of the log in a directory, in this form, of the series that have the label that the word
 -- spells, and nothing else

@@ -1,8 +1,8 @@
 //! The text of an analysis.
 
 use crate::bars::{push_figures, width_of};
+use answers::{push_pair, push_spelled};
 use head_ranks::{LabelCount, NameCount, Totals, rank_by_samples, rank_by_series, rank_names};
-use prom_commands::{push_pair, push_spelled};
 use std::alloc::{AllocError, Global};
 
 /// How the lists of an analysis are printed.
@@ -21,7 +21,7 @@ enum Figure {
     Samples,
 }
 
-// A list of labels: the figure that it shows, the whole that each is a share of, and whether names are printed beside the values.
+// A list of labels: the figure that it shows, the whole that each is a share of, and whether names are printed next to the values.
 #[derive(Clone, Copy, Debug, PartialEq, Eq)]
 struct Listing {
     figure: Figure,

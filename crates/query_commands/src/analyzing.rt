@@ -3,13 +3,15 @@
 ghost use Rattle.std.specs.Prelude.{◌≡◌, false};
 
 use crate::analysis::{Layout, analysis_text};
+use answers::{AnalyzeRequest, Answer, Fault};
 use head_core::Head;
 use head_ranks::{label_counts, metrics, name_counts, totals};
-use prom_commands::{Answer, Progress, ReplayedLog, replay_in};
-use prom_store::{AnalyzeRequest, Fault, Store};
+use log_directory::{ReplayedLog, replay_in};
+use progress::Progress;
 use std::alloc::{AllocError, Global};
 use std::sync::Wait;
 use std::thread::Threads;
+use store::Store;
 
 // Returns the analysis of a head.
 fn analysis_of(alloc: Global, head: &Head, layout: Layout) -> Result<String, AllocError>

@@ -26,7 +26,7 @@ pub(crate) fn width_of(number: u64) -> usize {
     }
 }
 
-// Appends a bar for a share, with a `#` for each full 5 percent, and spaces behind it.
+// Appends a bar for a share, with a `#` for each full 5 percent, and spaces after it.
 fn push_bar(text: &mut String, share: u128) -> Result<(), AllocError> {
     let full = (share / 50).min(20) as usize;
     for i in 0..CELLS {
@@ -35,7 +35,7 @@ fn push_bar(text: &mut String, share: u128) -> Result<(), AllocError> {
     text.push_str("  ")
 }
 
-/// Appends the front of a line: a number, right-aligned to a width, and its share of the whole in percent, with one digit behind the point,
+/// Appends the front of a line: a number, right-aligned to a width, and its share of the whole in percent, with one digit after the point,
 /// rounded down; and a bar if `bar`.
 pub(crate) fn push_figures(
     text: &mut String,

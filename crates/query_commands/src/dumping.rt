@@ -2,19 +2,22 @@
 
 ghost use Rattle.std.specs.Prelude.{◌≡◌, MatchResult, false};
 ghost use Rattle.std.specs.Option.{option_map};
-ghost use Rattle.prom_store.specs.Faults.{TellsNoDamage};
-ghost use Rattle.prom_store.specs.Views.{view_of};
-ghost use Rattle.prom_commands.specs.Answers.{TellsUpTo};
-ghost use Rattle.prom_commands.specs.Replays.{slots_of};
-ghost use Rattle.head_dump.specs.Dumps.{IsDump};
+ghost use Rattle.answers.specs.Faults.{TellsNoDamage};
+ghost use Rattle.store.specs.Views.{view_of};
+ghost use Rattle.answers.specs.Answers.{TellsUpTo};
+ghost use Rattle.log_directory.specs.Replays.{slots_of};
+ghost use Rattle.query_commands.specs.Dumps.{IsDump};
 ghost use Rattle.query_commands.specs.Requests.{IsDumpIn};
 
-use head_dump::{Selection, dump_text};
-use prom_commands::{Answer, Pair, Progress, ReplayedLog, pair_of, replay_in, slots_of};
-use prom_store::{DumpRequest, Fault, Store};
+use crate::lines::dump_text;
+use crate::selection::Selection;
+use answers::{Answer, DumpRequest, Fault, Pair, pair_of};
+use log_directory::{ReplayedLog, replay_in, slots_of};
+use progress::Progress;
 use std::alloc::Global;
 use std::sync::Wait;
 use std::thread::Threads;
+use store::Store;
 
 // Prints the samples that are selected of a replayed log, of the series that have this label, one a line.
 fn dumped(

@@ -5,6 +5,8 @@ mod analysis;
 mod analyzing;
 mod bars;
 mod dumping;
+mod lines;
+mod selection;
 
 pub use analyzing::carry_out_analyze;
 pub use dumping::carry_out_dump;

@@ -5,9 +5,9 @@ use Rattle.std.specs.List.{AllZip}
 use Rattle.std.proofs.Common.{ap, arith, drop, get_or, inr, subst, sym, take, append_assoc, ◌∙◌}
 use Rattle.std.proofs.lemmas.List.{map-append, take-append-drop, take_more}
 use Rattle.head_core.specs.Content.{Content}
-use Rattle.prom_store.specs.Calls.{Call}
-use Rattle.prom_store.specs.Found.{Found}
-use Rattle.prom_store.specs.declared.fault.Fault.{Fault}
+use Rattle.store.specs.Calls.{Call}
+use Rattle.store.specs.Found.{Found}
+use Rattle.answers.specs.declared.fault.Fault.{Fault}
 use Rattle.block_commands.specs.Folders.{WritesBlock}
 use Rattle.rescue_commands.specs.Rescues.{HaveBlocks}
 use Rattle.rescue_commands.specs.Steps.{AreBlocksOf, IsBlockOfHead, LeavesBlock}

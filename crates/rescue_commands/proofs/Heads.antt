@@ -5,14 +5,14 @@ use Rattle.wal_log.specs.Inputs.{Files}
 use Rattle.head_core.specs.Content.{Content}
 use Rattle.head_serial.specs.Replays.{IsReplayed}
 use Rattle.block_read.specs.declared.block.Block.{Block}
-use Rattle.block_text.specs.Sums.{Text}
-use Rattle.prom_store.specs.Calls.{Call}
-use Rattle.prom_store.specs.Found.{Found}
-use Rattle.prom_store.specs.Views.{view_of}
-use Rattle.prom_store.specs.declared.damage.Flaw.{Flaw}
-use Rattle.prom_store.specs.declared.requests.LogForm.{LogForm}
-use Rattle.log_source.specs.Sources.{IsSourceIn}
-use Rattle.prom_commands.specs.Answers.{IsNoDamage}
+use Rattle.hw_bytes.specs.Sums.{Text}
+use Rattle.store.specs.Calls.{Call}
+use Rattle.store.specs.Found.{Found}
+use Rattle.store.specs.Views.{view_of}
+use Rattle.answers.specs.declared.damage.Flaw.{Flaw}
+use Rattle.answers.specs.declared.requests.LogForm.{LogForm}
+use Rattle.log_directory.specs.Sources.{IsSourceIn}
+use Rattle.answers.specs.Answers.{IsNoDamage}
 use Rattle.rescue_commands.specs.Rescues.{IsBlockOfHour, WritesHours}
 use Rattle.rescue_commands.specs.Steps.{IsBlockOfHead, WritesHead}
 use Rattle.rescue_commands.proofs.Written.{have_less, have_more}

@@ -4,9 +4,9 @@ use Rattle.std.proofs.Common.{ap, drop, get_or, inl, inr, subst, sym, take, â—Œâ
 use Rattle.std.proofs.Math.Seq.{drop-cons}
 use Rattle.std.proofs.lemmas.List.{take-append-drop, take_all, take_more}
 use Rattle.block_read.specs.declared.block.Block.{Block}
-use Rattle.block_text.specs.Sums.{Text}
-use Rattle.prom_store.specs.Calls.{Call}
-use Rattle.prom_store.specs.Found.{Found}
+use Rattle.hw_bytes.specs.Sums.{Text}
+use Rattle.store.specs.Calls.{Call}
+use Rattle.store.specs.Found.{Found}
 use Rattle.block_commands.specs.Folders.{WritesBlock}
 use Rattle.block_commands.proofs.Less.{writes_less}
 use Rattle.rescue_commands.specs.Rescues.{GivesUpBlock, HasBlock, HaveBlocks}

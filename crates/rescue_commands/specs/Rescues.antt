@@ -5,24 +5,24 @@ use Rattle.wal_log.specs.Inputs.{Files}
 use Rattle.block_files.specs.Ulids.{IsUlid}
 use Rattle.block_files.specs.declared.encoding.Encoding.TheVariants.{Xor}
 use Rattle.block_read.specs.declared.block.Block.{Block}
-use Rattle.block_text.specs.Sums.{Text}
+use Rattle.hw_bytes.specs.Sums.{Text}
 use Rattle.head_core.specs.Content.{Content}
 use Rattle.head_serial.specs.Replays.{IsReplayed}
 use Rattle.block_cut.specs.Logs.{IsBlockOfLog}
 use Rattle.block_cut.specs.Ranges.{Ascends, IsSampled}
-use Rattle.prom_store.specs.Calls.{Call}
-use Rattle.prom_store.specs.Found.{Bytes, Found}
-use Rattle.prom_store.specs.Views.{view_of}
-use Rattle.prom_store.specs.declared.damage.Flaw.{Flaw}
-use Rattle.prom_store.specs.declared.fault.Fault.TheVariants.{Lost}
-use Rattle.prom_store.specs.declared.requests.BlocksRequest.{BlocksRequest}
-use Rattle.prom_store.specs.declared.requests.LogForm.{LogForm}
-use Rattle.prom_store.specs.declared.requests.LogForm.TheVariants.{PastDamage}
-use Rattle.prom_store.specs.declared.requests.RescueRequest.{RescueRequest}
-use Rattle.prom_files.specs.Folders.{FileAt}
-use Rattle.log_source.specs.Sources.{IsSourceIn}
-use Rattle.prom_commands.specs.Answers.{IsNoDamage, fault_of}
-use Rattle.prom_commands.specs.declared.commands.Answer.{Answer}
+use Rattle.store.specs.Calls.{Call}
+use Rattle.store.specs.Found.{Bytes, Found}
+use Rattle.store.specs.Views.{view_of}
+use Rattle.answers.specs.declared.damage.Flaw.{Flaw}
+use Rattle.answers.specs.declared.fault.Fault.TheVariants.{Lost}
+use Rattle.answers.specs.declared.requests.BlocksRequest.{BlocksRequest}
+use Rattle.answers.specs.declared.requests.LogForm.{LogForm}
+use Rattle.answers.specs.declared.requests.LogForm.TheVariants.{PastDamage}
+use Rattle.answers.specs.declared.requests.RescueRequest.{RescueRequest}
+use Rattle.new_files.specs.Folders.{FileAt}
+use Rattle.log_directory.specs.Sources.{IsSourceIn}
+use Rattle.answers.specs.Answers.{IsNoDamage, fault_of}
+use Rattle.answers.specs.declared.answer.Answer.{Answer}
 use Rattle.block_commands.specs.Folders.{WritesBlock, block_files, chunks_in}
 
 -- ---- one hour

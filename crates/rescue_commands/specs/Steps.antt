@@ -5,11 +5,11 @@ use Rattle.block_files.specs.Ulids.{IsUlid}
 use Rattle.block_files.specs.declared.encoding.Encoding.TheVariants.{Xor}
 use Rattle.block_read.specs.declared.block.Block.{Block}
 use Rattle.block_read.specs.Blocks.{IsBlockOf}
-use Rattle.block_text.specs.Sums.{Text}
+use Rattle.hw_bytes.specs.Sums.{Text}
 use Rattle.head_core.specs.Content.{Content}
 use Rattle.hour_rows.specs.Rows.{rows_of}
-use Rattle.prom_store.specs.Calls.{Call}
-use Rattle.prom_store.specs.Found.{Found}
+use Rattle.store.specs.Calls.{Call}
+use Rattle.store.specs.Found.{Found}
 use Rattle.block_commands.specs.Folders.{WritesBlock}
 use Rattle.rescue_commands.specs.Rescues.{AreHours, GivesUpBlock, HaveBlocks}
 use Rattle.rescue_commands.specs.declared.cutting.NamedBlock.{NamedBlock}

@@ -1,18 +1,20 @@
 //! The command `blocks`: a log becomes blocks.
 
-ghost use Rattle.std.specs.Prelude.{IfOk, IsOk};
+ghost use Rattle.std.specs.Prelude.{◌≡◌, IfOk, IsOk, None};
+ghost use Rattle.answers.specs.declared.fault.Status.TheVariants.{Done};
 ghost use Rattle.rescue_commands.specs.Rescues.{IsWell, TellsLost, WritesBlocks};
 
 use crate::fault::failed;
 use crate::hours::write_hours;
 use crate::report::Telling;
+use answers::{Answer, BlocksRequest, Fault};
 use block_read::Ulid;
-use log_source::Source;
-use prom_commands::{Answer, Progress, undamaged_head, undamaged_source};
-use prom_store::{BlocksRequest, Fault, Store};
+use log_directory::{Source, undamaged_head, undamaged_source};
+use progress::Progress;
 use std::alloc::Global;
 use std::sync::Wait;
 use std::thread::Threads;
+use store::Store;
 
 // Carries out a request, or returns why it failed.
 fn execute<R: Threads + Wait + Sync, S: Store, P: Progress + Sync>(
@@ -23,6 +25,7 @@ fn execute<R: Threads + Wait + Sync, S: Store, P: Progress + Sync>(
     request: BlocksRequest<'_>,
 ) -> Result<Answer, Fault>
     ensures crash { WritesBlocks S.did S.holds store.old request.entry (IsOk result) (λ own. IfOk result (λ answer. TellsLost answer own)) store.new }
+    ensures done { IfOk result (λ answer. answer.status ≡ Done → answer.fault ≡ None) }
 {
     let Ok(ulid) = Ulid::new(request.ulid) else {
         return Err(Fault::BadUlid);
@@ -34,7 +37,7 @@ fn execute<R: Threads + Wait + Sync, S: Store, P: Progress + Sync>(
 }
 
 /// Carries out a request: writes a block for each hour of a log that has a sample, and says which. Nothing is written if the name that is given
-/// is not a ULID, or if the log is damaged and not read past its damage. If parts of the log are lost, that is reported beside the blocks. Where
+/// is not a ULID, or if the log is damaged and not read past its damage. If parts of the log are lost, that is reported besides the blocks. Where
 /// it fails, the blocks of the hours before are written, and a later run leaves them.
 pub fn carry_out_blocks<R: Threads + Wait + Sync, S: Store, P: Progress + Sync>(
     rt: &R,
@@ -44,6 +47,8 @@ pub fn carry_out_blocks<R: Threads + Wait + Sync, S: Store, P: Progress + Sync>(
     request: BlocksRequest<'_>,
 ) -> Answer
     ensures crash { WritesBlocks S.did S.holds store.old request.entry (IsWell result) (TellsLost result) store.new }
+    // Status 0 is that of a run after which no fault is reported.
+    ensures done { result.status ≡ Done → result.fault ≡ None }
 {
     match execute(rt, alloc, store, progress, request) {
         Ok(answer) => answer,

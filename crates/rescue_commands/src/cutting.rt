@@ -1,23 +1,24 @@
-//! The block of an hour, as it is cut, and whether it stands in a directory already.
+//! The block of an hour, as it is cut, and whether it is in a directory already.
 
 ghost use Rattle.std.specs.Prelude.{◌≡◌, All, IfOk, IsTrue, false, map};
-ghost use Rattle.prom_store.specs.Found.{Bytes};
+ghost use Rattle.store.specs.Found.{Bytes};
 ghost use Rattle.block_commands.specs.Folders.{block_files, chunks_in};
 ghost use Rattle.rescue_commands.specs.Rescues.{Stands};
 ghost use Rattle.rescue_commands.specs.Steps.{AreBlocksOf, IsBlockOfHead};
 
 use crate::fault::pass_over;
 use crate::naming::text_of;
+use answers::Fault;
 use block_commands::{of_cut, read_parts};
 use block_cut::cut_any;
 use block_read::{Block, Encoding, Ulid};
 use head_column::Hour;
 use head_core::Head;
 use hw_bytes::Items;
-use prom_store::{Fault, Store, join};
 use rayon::prelude::*;
 use std::alloc::Global;
 use std::thread::Threads;
+use store::{Store, join};
 
 /// An hour, and the name of its block.
 #[derive(Clone, Copy, Debug)]

@@ -1,14 +1,16 @@
 //! Faults: one that ends a command, and those that are passed over.
 
+ghost use Rattle.std.specs.Prelude.{◌≡◌};
+ghost use Rattle.answers.specs.declared.fault.Status.TheVariants.{Done};
 ghost use Rattle.rescue_commands.specs.Rescues.{IsWell};
 
-use prom_commands::Answer;
-use prom_store::Fault;
+use answers::{Answer, Fault};
 use std::alloc::Global;
 
 /// Returns the answer of a command that failed.
 pub(crate) fn failed(alloc: Global, fault: Fault) -> Answer
-    ensures { IsWell result → ⊥ }
+    ensures well { IsWell result → ⊥ }
+    ensures done { result.status ≡ Done → ⊥ }
 {
     match fault {
         // not reached: blocks are written of what is not lost

@@ -8,13 +8,14 @@ use crate::report::Telling;
 use crate::run::Run;
 use crate::shelf::{Shelf, shelf_of};
 use crate::writing::write_next;
+use answers::Fault;
 use block_cut::sampled_hours;
 use block_read::Ulid;
 use head_column::Hour;
 use head_core::Head;
-use prom_store::{Fault, Store};
 use std::alloc::Global;
 use std::thread::Threads;
+use store::Store;
 
 // At most so many hours are cut side by side.
 const MOST_HOURS: usize = 3;
@@ -72,7 +73,7 @@ fn write_on<R: Threads + Sync, S: Store>(
     Ok(run.into_text())
 }
 
-/// Writes a block for each hour of a head with an accepted sample in the directory `out`, unless it stands there, and returns the text that is
+/// Writes a block for each hour of a head with an accepted sample in the directory `out`, unless it is there, and returns the text that is
 /// printed. The name of the first is `first`, and those of the others follow it. Names that are taken are passed over. The head must not have failed.
 pub(crate) fn write_hours<R: Threads + Sync, S: Store>(
     rt: &R,

@@ -3,8 +3,7 @@
 use crate::lost::{Stretch, kind_of, records_of, stretch_of, word_of};
 use crate::report::Rescued;
 use crate::told::{HourBlock, samples_of};
-use log_source::{FileRead, LostPart, lost_count};
-use prom_figures::ends;
+use log_directory::{FileRead, LostPart, lost_count};
 use serde_json::{Map, Value, put};
 use std::alloc::{AllocError, Global};
 
@@ -121,7 +120,7 @@ fn put_hour(
     alloc: Global,
     block: &HourBlock,
 ) -> Result<(), AllocError> {
-    let (ulid, (from, to)) = (block.ulid, ends(block.hour));
+    let (ulid, (from, to)) = (block.ulid, block.hour.bounds());
     let name = format!(in alloc; "{ulid}")?;
     put(members, alloc, "ulid", Value::from(name))?;
     put(members, alloc, "from", time_value(from))?;
@@ -166,7 +165,7 @@ fn put_given(
     put(members, alloc, "data", data)
 }
 
-// Adds the same, or `null` for both if no data directory is told.
+// Adds the same, or `null` for both if no data directory is reported.
 fn put_least(
     members: &mut Map<String, Value>,
     alloc: Global,

@@ -1,7 +1,7 @@
 //! The commands that write a block for each hour of a log, over any store: `blocks` of a log that is read in one of its forms, and `rescue` of
 //! all that can be read of a log, which says besides what was read of each file and what is lost.
 //!
-//! The blocks have chunks that a server opens. An hour whose block stands in the directory already, byte for byte, is left: a run that was cut
+//! The blocks have chunks that a server opens. An hour whose block is in the directory already, byte for byte, is left: a run that was cut
 //! off is done again. In memory are the head and up to three blocks at a time, one where the head has many series.
 #![tactic(auto)]
 
@@ -20,6 +20,6 @@ mod standing;
 mod told;
 mod writing;
 
+pub use answers::{BlocksRequest, RescueRequest};
 pub use blocks::carry_out_blocks;
-pub use prom_store::{BlocksRequest, RescueRequest};
 pub use rescue::carry_out_rescue;

@@ -1,7 +1,7 @@
 //! What is lost of a log.
 
-use log_source::{FileRead, LostPart, push_lost};
-use prom_store::{FileNumber, kind_of_file};
+use answers::{FileNumber, kind_of_file};
+use log_directory::{FileRead, LostPart, push_lost};
 use std::alloc::{AllocError, Global};
 use wal_log::Place;
 

@@ -1,4 +1,4 @@
-//! The names of new blocks: one behind the other.
+//! The names of new blocks: one after the other.
 
 ghost use Rattle.std.specs.Prelude.{◌≡◌, IfOk, string_bytes};
 
@@ -6,7 +6,7 @@ use block_read::Ulid;
 use std::alloc::{AllocError, Global};
 use std::str;
 
-// Returns the digit behind this one, or `None` behind the last one, `Z`.
+// Returns the digit after this one, or `None` after the last one, `Z`.
 fn digit_behind(digit: u8) -> Option<u8> {
     match digit {
         b'9' => Some(b'A'),
@@ -19,7 +19,7 @@ fn digit_behind(digit: u8) -> Option<u8> {
     }
 }
 
-/// Returns the name behind this one, or `None` behind the last one.
+/// Returns the name after this one, or `None` after the last one.
 pub(crate) fn next_of(ulid: &Ulid) -> Option<Ulid> {
     let mut digits = [0; 26];
     digits.copy_from_slice(ulid.as_bytes());
@@ -35,13 +35,13 @@ pub(crate) fn next_of(ulid: &Ulid) -> Option<Ulid> {
     None
 }
 
-// Returns whether a name, or it with `.tmp` behind it, is this one.
+// Returns whether a name, or it with `.tmp` after it, is this one.
 fn takes(name: &str, ulid: &Ulid) -> bool {
     let name = name.as_bytes();
     name.strip_suffix(b".tmp").unwrap_or(name) == ulid.as_bytes()
 }
 
-/// Returns the first name, from this one on, that is not among the names of a directory, nor with `.tmp` behind it. Returns `None` if there is
+/// Returns the first name, from this one on, that is not among the names of a directory, nor with `.tmp` after it. Returns `None` if there is
 /// none.
 pub(crate) fn free_name(first: Ulid, names: &[String]) -> Option<Ulid> {
     let mut ulid = first;

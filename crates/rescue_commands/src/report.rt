@@ -3,14 +3,13 @@
 use crate::json::document;
 use crate::lost::{push_file, records_of};
 use crate::told::{HourBlock, samples_of};
-use log_source::{FileRead, lost_count};
-use prom_figures::ends;
-use prom_store::ShownPath;
+use log_directory::{FileRead, lost_count};
 use std::alloc::{AllocError, Global};
+use store::ShownPath;
 
-/// What `rescue` tells beside the blocks.
+/// What `rescue` reports besides the blocks.
 pub(crate) struct Rescued<'a> {
-    /// The data directory whose blocks gave the least valid time, if it is told.
+    /// The data directory whose blocks gave the least valid time, if it is reported.
     pub(crate) data: Option<&'a str>,
     /// The least valid time, in milliseconds.
     pub(crate) min_valid: i64,
@@ -36,7 +35,7 @@ impl Drop for Rescued<'_> {
     }
 }
 
-/// What is told beside the blocks.
+/// What is reported besides the blocks.
 #[derive(Drop)]
 pub(crate) enum Telling<'a> {
     /// By `blocks`: nothing.
@@ -48,7 +47,7 @@ pub(crate) enum Telling<'a> {
 // Appends the line of the block of an hour.
 fn push_block(text: &mut String, block: &HourBlock) -> Result<(), AllocError> {
     let word = if block.is_written { "block" } else { "there" };
-    let (start, end) = ends(block.hour);
+    let (start, end) = block.hour.bounds();
     let HourBlock {
         ulid,
         series,
@@ -75,7 +74,7 @@ fn push_sums(text: &mut String, blocks: &[HourBlock]) -> Result<(), AllocError> 
     writeln!(text, "blocks {number}\nsamples {samples}")
 }
 
-// Appends the least valid time and where it is from, if that is told.
+// Appends the least valid time and where it is from, if that is reported.
 fn push_least(text: &mut String, rescued: &Rescued<'_>) -> Result<(), AllocError> {
     if let Some(data) = rescued.data {
         let (least, data) = (rescued.min_valid, ShownPath(data));

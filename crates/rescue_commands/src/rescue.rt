@@ -1,20 +1,22 @@
 //! The command `rescue`: all that can be read of a log becomes blocks.
 
-ghost use Rattle.std.specs.Prelude.{◌≡◌, IfOk, IsOk, false};
+ghost use Rattle.std.specs.Prelude.{◌≡◌, IfOk, IsOk, None, false};
+ghost use Rattle.answers.specs.declared.fault.Status.TheVariants.{Done};
 ghost use Rattle.rescue_commands.specs.Rescues.{IsWell, RescuesBlocks, TellsLost};
 ghost use Rattle.rescue_commands.specs.Steps.{WritesHead};
 
 use crate::fault::failed;
 use crate::hours::write_hours;
 use crate::report::{Rescued, Telling};
+use answers::{Answer, Fault, RescueRequest};
 use block_read::Ulid;
 use head_core::{Counts, Head};
-use log_source::{FileRead, RescuedLog, flaw_of_reads, read_rescued};
-use prom_commands::{Answer, Progress, undamaged_head};
-use prom_store::{Fault, RescueRequest, Store};
+use log_directory::{FileRead, RescuedLog, flaw_of_reads, read_rescued, undamaged_head};
+use progress::Progress;
 use std::alloc::Global;
 use std::sync::Wait;
 use std::thread::Threads;
+use store::Store;
 
 // Returns the data directory whose blocks gave the least valid time, if they gave one.
 fn data_of<'a>(request: &RescueRequest<'a>) -> Option<&'a str> {
@@ -24,7 +26,7 @@ fn data_of<'a>(request: &RescueRequest<'a>) -> Option<&'a str> {
     request.data
 }
 
-// Returns what is told beside the blocks.
+// Returns what is reported besides the blocks.
 fn telling_of<'a>(request: RescueRequest<'a>, files: Vec<FileRead>, counts: Counts) -> Telling<'a> {
     Telling::Rescue(Rescued {
         data: data_of(&request),
@@ -62,6 +64,7 @@ fn execute<R: Threads + Wait + Sync, S: Store, P: Progress + Sync>(
     request: RescueRequest<'_>,
 ) -> Result<Answer, Fault>
     ensures crash { RescuesBlocks S.did S.holds store.old request.entry (IsOk result) (λ own. IfOk result (λ answer. TellsLost answer own)) store.new }
+    ensures done { IfOk result (λ answer. answer.status ≡ Done → answer.fault ≡ None) }
 {
     let Ok(ulid) = Ulid::new(request.ulid) else {
         return Err(Fault::BadUlid);
@@ -84,6 +87,8 @@ pub fn carry_out_rescue<R: Threads + Wait + Sync, S: Store, P: Progress + Sync>(
     request: RescueRequest<'_>,
 ) -> Answer
     ensures crash { RescuesBlocks S.did S.holds store.old request.entry (IsWell result) (TellsLost result) store.new }
+    // Status 0 is that of a run after which no fault is reported.
+    ensures done { result.status ≡ Done → result.fault ≡ None }
 {
     match execute(rt, alloc, store, progress, request) {
         Ok(answer) => answer,

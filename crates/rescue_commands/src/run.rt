@@ -6,9 +6,9 @@ use crate::cutting::{NamedBlock, NamedHour};
 use crate::naming::{free_name, next_of};
 use crate::report::{Telling, printed};
 use crate::told::{HourBlock, told_of};
+use answers::Fault;
 use block_read::Ulid;
 use head_column::Hour;
-use prom_store::Fault;
 use std::alloc::{AllocError, Global};
 
 /// How far a run is.
@@ -16,7 +16,7 @@ pub(crate) struct Run<'a> {
     telling: &'a Telling<'a>,
     // How many hours there are.
     hours: usize,
-    // The name of the next block that is written, unless another has it. `None` behind the last name.
+    // The name of the next block that is written, unless another has it. `None` after the last name.
     next: Option<Ulid>,
     // The blocks of the hours so far, the one that is about to be written among them.
     blocks: Vec<HourBlock>,
@@ -86,7 +86,7 @@ impl<'a> Run<'a> {
         self.add(alloc, block)
     }
 
-    /// Returns the name of the next block that is written. Returns `BadUlid` behind the last name.
+    /// Returns the name of the next block that is written. Returns `BadUlid` after the last name.
     pub(crate) fn take_name(&mut self, names: &[String]) -> Result<Ulid, Fault> {
         let Some(first) = self.next else {
             return Err(Fault::BadUlid);

@@ -6,14 +6,14 @@ ghost use Rattle.rescue_commands.specs.Steps.{IsBlockOfHead};
 
 use crate::cutting::{NamedBlock, cut_hour, stands};
 use crate::standing::{Standing, standing_in};
+use answers::Fault;
 use block_read::Ulid;
 use head_column::Hour;
 use head_core::Head;
-use log_source::names_in;
-use prom_figures::ends;
-use prom_store::{Fault, Store};
+use log_directory::names_in;
 use std::alloc::Global;
 use std::thread::Threads;
+use store::Store;
 
 /// The directory in which blocks are written, and what stood in it before the first was.
 pub(crate) struct Shelf<'a> {
@@ -62,10 +62,10 @@ fn sorted_names<S: Store>(alloc: Global, store: &S, out: &str) -> Result<Vec<Str
 
 // Returns whether the block is said to be of this hour.
 fn is_of(block: &Standing, hour: Hour) -> bool {
-    (i128::from(block.from), i128::from(block.to)) == ends(hour)
+    (i128::from(block.from), i128::from(block.to)) == hour.bounds()
 }
 
-// Cuts an hour of a head under the name of a block that stands in a directory, and returns it if it is that block.
+// Cuts an hour of a head under the name of a block that is in a directory, and returns it if it is that block.
 fn same_block<R: Threads + Sync, S: Store>(
     rt: &R,
     alloc: Global,
@@ -86,14 +86,14 @@ fn same_block<R: Threads + Sync, S: Store>(
 }
 
 impl Shelf<'_> {
-    /// Returns whether a block that stands in the directory is said to be of one of these hours.
+    /// Returns whether a block that is in the directory is said to be of one of these hours.
     pub(crate) fn has_any(&self, hours: &[Hour]) -> bool {
         self.blocks
             .iter()
             .any(|block| hours.iter().any(|hour| is_of(block, *hour)))
     }
 
-    /// Returns the block of an hour of a head, which must not have failed, if it stands in the directory, byte for byte.
+    /// Returns the block of an hour of a head, which must not have failed, if it is in the directory, byte for byte.
     pub(crate) fn find<R: Threads + Sync, S: Store>(
         &self,
         rt: &R,

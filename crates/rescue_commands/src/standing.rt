@@ -1,13 +1,14 @@
 //! The blocks that stand in a directory, by what their meta.json says.
 
 use crate::fault::pass_over;
+use answers::Fault;
 use block_read::Ulid;
-use log_source::read_in;
-use prom_store::{Fault, Store, join};
+use log_directory::read_in;
 use serde_json::Value;
 use std::alloc::{AllocError, Global};
+use store::{Store, join};
 
-/// A block that stands in a directory: its name, its first millisecond and the first one after it.
+/// A block that is in a directory: its name, its first millisecond and the first one after it.
 #[derive(Clone, Copy, Debug)]
 pub(crate) struct Standing {
     pub(crate) ulid: Ulid,

@@ -1,4 +1,4 @@
-//! What is told of the block of an hour.
+//! What is reported of the block of an hour.
 
 use crate::cutting::NamedBlock;
 use block_read::{Block, Ulid};
@@ -6,7 +6,7 @@ use head_column::Hour;
 use serde_json::Value;
 use std::alloc::{AllocError, Global};
 
-/// The block of an hour: its name, its hour, how many series and samples it has, and whether it was written or stood there already.
+/// The block of an hour: its name, its hour, how many series and samples it has, and whether it was written or was there already.
 #[derive(Clone, Copy, Debug)]
 pub(crate) struct HourBlock {
     pub(crate) ulid: Ulid,
@@ -34,7 +34,7 @@ fn counted(alloc: Global, block: &Block) -> Result<(u64, u64), AllocError> {
     }
 }
 
-/// Returns what is told of the block of an hour.
+/// Returns what is reported of the block of an hour.
 pub(crate) fn told_of(
     alloc: Global,
     named: &NamedBlock,

@@ -9,12 +9,13 @@ use crate::cutting::{NamedBlock, cut_each, cut_hour};
 use crate::naming::text_of;
 use crate::run::Run;
 use crate::shelf::Shelf;
+use answers::Fault;
 use block_commands::write_block;
 use head_column::Hour;
 use head_core::Head;
-use prom_store::{Fault, Store};
 use std::alloc::Global;
 use std::thread::Threads;
+use store::Store;
 
 // Writes a block under its name in a directory.
 fn put_block<S: Store>(
@@ -65,7 +66,7 @@ fn write_blocks<S: Store>(
     Ok(())
 }
 
-// Cuts hours of a head side by side, and writes their blocks, of which none stands in the directory.
+// Cuts hours of a head side by side, and writes their blocks, of which none is in the directory.
 fn write_new<R: Threads + Sync, S: Store>(
     rt: &R,
     alloc: Global,
@@ -102,7 +103,7 @@ fn write_missing<R: Threads + Sync, S: Store>(
     write_cut(alloc, store, &named, shelf, run)
 }
 
-// Writes the block of an hour of a head, unless it stands in the directory.
+// Writes the block of an hour of a head, unless it is in the directory.
 fn write_hour<R: Threads + Sync, S: Store>(
     rt: &R,
     alloc: Global,
@@ -122,7 +123,7 @@ fn write_hour<R: Threads + Sync, S: Store>(
     }
 }
 
-// Writes the blocks of hours of a head, each unless it stands in the directory.
+// Writes the blocks of hours of a head, each unless it is in the directory.
 fn write_missing_of<R: Threads + Sync, S: Store>(
     rt: &R,
     alloc: Global,
@@ -141,7 +142,7 @@ fn write_missing_of<R: Threads + Sync, S: Store>(
     Ok(())
 }
 
-/// Writes the blocks of hours of a head, which must not have failed, each unless it stands in the directory. All that are written are in memory
+/// Writes the blocks of hours of a head, which must not have failed, each unless it is in the directory. All that are written are in memory
 /// before the first is.
 pub(crate) fn write_next<R: Threads + Sync, S: Store>(
     rt: &R,

@@ -12,6 +12,7 @@ mod laws;
 mod maps;
 mod reference_slots;
 mod references;
+mod slot;
 
 pub use greatest::with_reference;
 pub use heap::Heap;
@@ -19,3 +20,4 @@ pub use laws::heap_height;
 pub use maps::copied;
 pub use reference_slots::LOW_END;
 pub use references::References;
+pub use slot::Slot;

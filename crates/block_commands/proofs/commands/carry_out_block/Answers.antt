@@ -1,5 +1,5 @@
 use Rattle.std.proofs.Common.{refl}
-use Rattle.prom_store.specs.Views.{view_of}
+use Rattle.store.specs.Views.{view_of}
 use Rattle.block_commands.proofs.Less.{carries_less, refused_prints}
 use Rattle.block_commands.proofs.commands.carry_out_block.Goals as goal
 

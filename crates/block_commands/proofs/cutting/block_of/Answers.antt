@@ -4,7 +4,7 @@ use Rattle.std.proofs.lemmas.Int.{to_z-of_z}
 use Rattle.block_read.specs.Blocks.{IsBlockOf}
 use Rattle.block_cut.specs.Logs.{IsBlockOfLog}
 use Rattle.hour_rows.specs.Rows.{rows_of}
-use Rattle.log_source.proofs.Told.{told_ok}
+use Rattle.log_directory.proofs.Told.{told_ok}
 use Rattle.block_commands.proofs.cutting.block_of.Goals as goal
 
 pub returns-clause-block : goal.returns-clause-block

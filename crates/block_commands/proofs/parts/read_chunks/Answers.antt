@@ -2,7 +2,7 @@ use Rattle.std.proofs.Common.{List, String, subst, ◌∙◌}
 use Rattle.std.specs.Global.{Global}
 use Rattle.std.specs.List.{AllZip}
 use Rattle.std.specs.Prelude.{string_bytes}
-use Rattle.prom_store.specs.Found.{Bytes}
+use Rattle.store.specs.Found.{Bytes}
 use Rattle.block_commands.proofs.ReadParts.{all_chunks}
 use Rattle.block_commands.proofs.parts.read_chunks.Goals as goal
 

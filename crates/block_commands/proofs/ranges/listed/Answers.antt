@@ -1,8 +1,8 @@
 use Rattle.std.proofs.Common.{ap, refl, ◌∙◌}
 use Rattle.std.specs.List.{flat_map}
-use Rattle.prom_commands.proofs.Answered.{tells_up_to}
-use Rattle.log_source.proofs.Told.{told_err}
-use Rattle.log_source.proofs.Unread.{no_memory}
+use Rattle.answers.proofs.Answered.{tells_up_to}
+use Rattle.log_directory.proofs.Told.{told_err}
+use Rattle.log_directory.proofs.Unread.{no_memory}
 use Rattle.block_commands.specs.Printed.{range_line}
 use Rattle.block_commands.proofs.ranges.listed.Goals as goal
 

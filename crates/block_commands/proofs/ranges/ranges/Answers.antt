@@ -1,10 +1,10 @@
 use Rattle.std.proofs.Common.{Option, subst, sym}
-use Rattle.prom_store.specs.Faults.{TellsNoDamage}
-use Rattle.prom_store.specs.Views.{view_of}
-use Rattle.prom_store.specs.declared.damage.Flaw.{Flaw}
-use Rattle.prom_commands.specs.Replays.{IsReplayIn}
-use Rattle.prom_commands.proofs.Answered.{up_to_more}
-use Rattle.log_source.proofs.Told.{told_err}
+use Rattle.answers.specs.Faults.{TellsNoDamage}
+use Rattle.store.specs.Views.{view_of}
+use Rattle.answers.specs.declared.damage.Flaw.{Flaw}
+use Rattle.log_directory.specs.Replays.{IsReplayIn}
+use Rattle.answers.proofs.Answered.{up_to_more}
+use Rattle.log_directory.proofs.Told.{told_err}
 use Rattle.block_commands.specs.Printed.{IsRangesText}
 use Rattle.block_commands.proofs.ranges.ranges.Goals as goal
 

@@ -1,5 +1,5 @@
 use Rattle.std.proofs.Common.{[], ◌∷◌, ◌++◌, ap, append_assoc, map, sym, take, ◌∙◌}
-use Rattle.prom_files.specs.Folders.{file_at}
+use Rattle.new_files.specs.Folders.{file_at}
 use Rattle.block_commands.specs.Folders.{chunk_paths, named}
 use Rattle.block_commands.proofs.Folders.{one_more}
 use Rattle.block_commands.proofs.writing.push_chunks.Goals as goal

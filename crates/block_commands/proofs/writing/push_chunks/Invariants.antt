@@ -1,5 +1,5 @@
 use Rattle.std.proofs.Common.{◌≡◌, ◌++◌, map, take}
-use Rattle.prom_files.specs.Folders.{file_at}
+use Rattle.new_files.specs.Folders.{file_at}
 use Rattle.block_commands.specs.Folders.{chunk_paths}
 use Rattle.block_commands.proofs.writing.push_chunks.Given as goal
 

@@ -2,7 +2,7 @@ use Rattle.std.proofs.Common.{◌≡◌, ◌++◌, All, map}
 use Rattle.std.specs.List.{zip}
 use Rattle.std.specs.Iterator.Adapters.{zip_first, zip_second}
 use Rattle.std.specs.Slice.Iter.{iter_rest}
-use Rattle.index_parts.specs.Rows.{FitsChunk}
+use Rattle.index_text.specs.Rows.{FitsChunk}
 use Rattle.block_read.specs.Blocks.{meta_of}
 use Rattle.block_cut.proofs.writing.name_chunks.Given as goal
 

@@ -1,6 +1,6 @@
 use Rattle.std.proofs.Common.{rules, ◌≡◌, ◌++◌, [], ◌∷◌, List, ap, ◌∙◌, sym, arith, append_assoc, Err}
 use Rattle.head_column.specs.declared.chunk.Chunk.{Chunk}
-use Rattle.block_text.specs.declared.fault.WriteFault.TheVariants.{TooLarge}
+use Rattle.hw_bytes.specs.declared.write_fault.WriteFault.TheVariants.{TooLarge}
 use Rattle.block_files.specs.Files.{texts}
 use Rattle.block_cut.proofs.Placing.{fit_more, laid_more, large_here, short_here}
 use Rattle.block_cut.proofs.writing.place_chunks.Goals as goal

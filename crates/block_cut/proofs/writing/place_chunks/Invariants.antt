@@ -1,5 +1,5 @@
 use Rattle.std.proofs.Common.{◌≡◌, ◌++◌, All}
-use Rattle.index_parts.specs.Rows.{FitsChunk}
+use Rattle.index_text.specs.Rows.{FitsChunk}
 use Rattle.block_cut.proofs.Placing.{AreLaid}
 use Rattle.block_cut.proofs.writing.place_chunks.Given as goal
 

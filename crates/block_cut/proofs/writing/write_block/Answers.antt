@@ -7,11 +7,11 @@ use Rattle.std.proofs.lemmas.Int.{to_z-of_z}
 use Rattle.std.proofs.lemmas.List.{length-map}
 use Rattle.std.proofs.lemmas.Result.{err_from_is_err_and}
 use Rattle.head_column.specs.declared.chunk.Chunk.{Chunk}
-use Rattle.block_text.specs.declared.fault.WriteFault.TheVariants.{TooLarge}
-use Rattle.index_parts.specs.Rows.{AreRows, FitsIndex}
+use Rattle.hw_bytes.specs.declared.write_fault.WriteFault.TheVariants.{TooLarge}
+use Rattle.index_text.specs.Rows.{AreRows, FitsIndex}
 use Rattle.block_files.specs.Files.{AreShort, all_texts, chunk_files}
 use Rattle.block_files.specs.Tombstones.{tombstones_text}
-use Rattle.index_parts.specs.Index.{index_text, series_ids}
+use Rattle.index_text.specs.Index.{index_text, series_ids}
 use Rattle.block_read.specs.Blocks.{block_text, file_limit, index_rows, samples_of_rows, tombstones_of}
 use Rattle.block_files.specs.Meta.{meta_text}
 use Rattle.block_read.specs.declared.rows.BlockRow.{BlockRow}

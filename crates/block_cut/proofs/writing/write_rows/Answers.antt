@@ -1,9 +1,9 @@
 use Rattle.std.proofs.Common.{◌≡◌, ℕ, List, ap, sym, subst, ◌∙◌}
 use Rattle.std.specs.Prelude.{Err}
 use Rattle.std.proofs.lemmas.Result.{err_from_is_err_and}
-use Rattle.block_text.specs.declared.fault.WriteFault.TheVariants.{TooLarge}
-use Rattle.index_parts.specs.Index.{index_text, series_ids}
-use Rattle.index_parts.specs.Rows.{AreRows, FitsIndex}
+use Rattle.hw_bytes.specs.declared.write_fault.WriteFault.TheVariants.{TooLarge}
+use Rattle.index_text.specs.Index.{index_text, series_ids}
+use Rattle.index_text.specs.Rows.{AreRows, FitsIndex}
 use Rattle.block_files.specs.Tombstones.{tombstones_text}
 use Rattle.block_read.specs.Blocks.{tombstones_of}
 use Rattle.block_cut.specs.Cutting.{index_rows_of}

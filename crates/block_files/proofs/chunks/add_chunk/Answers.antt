@@ -1,5 +1,5 @@
 use Rattle.std.proofs.Common.{sym, ap, ◌∙◌, arith, List}
-use Rattle.block_text.specs.Sums.{Text}
+use Rattle.hw_bytes.specs.Sums.{Text}
 use Rattle.block_files.specs.Files.{last_reference}
 use Rattle.block_files.proofs.FileLaws.{last_reference_is}
 use Rattle.block_files.proofs.chunks.add_chunk.Goals as goal

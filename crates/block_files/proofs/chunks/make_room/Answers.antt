@@ -1,5 +1,5 @@
 use Rattle.std.proofs.Common.{rules, ◌≡◌, length, ap, arith, Err}
-use Rattle.block_text.specs.declared.fault.WriteFault.TheVariants.{TooLarge}
+use Rattle.hw_bytes.specs.declared.write_fault.WriteFault.TheVariants.{TooLarge}
 use Rattle.block_files.proofs.FileLaws.{stays, moves, moves_length, no_room}
 use Rattle.block_files.proofs.chunks.make_room.Goals as goal
 

@@ -1,5 +1,5 @@
 use Rattle.std.proofs.Common.{rules, ◌≡◌, take, arith, Err}
-use Rattle.block_text.specs.declared.fault.WriteFault.TheVariants.{TooLarge}
+use Rattle.hw_bytes.specs.declared.write_fault.WriteFault.TheVariants.{TooLarge}
 use Rattle.block_files.specs.declared.encoding.Encoding.TheVariants.{Raw}
 use Rattle.block_files.specs.Files.{texts}
 use Rattle.block_files.proofs.RowLaws.{lent_short, rows_added, rows_too_large}

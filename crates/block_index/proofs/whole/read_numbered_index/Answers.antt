@@ -1,8 +1,8 @@
 use Rattle.std.proofs.Common.{rules, ◌≡◌, ◌<◌, ◌^◌, length, map, Ok, ap, sym, ◌∙◌}
 use Rattle.hw_bytes.specs.Spellings.{IsBytes}
-use Rattle.index_parts.specs.Gives.{nows}
-use Rattle.index_parts.specs.Reading.{stored_in}
-use Rattle.index_parts.specs.Stored.{stored}
+use Rattle.index_text.specs.Gives.{nows}
+use Rattle.index_text.specs.Reading.{stored_in}
+use Rattle.index_text.specs.Stored.{stored}
 use Rattle.block_index.proofs.Last.{IfErr-then, IfOk-then, answers_early, answers_last, refuses_early, refuses_last, only_last}
 use Rattle.block_index.proofs.whole.read_numbered_index.Goals as goal
 

@@ -1,7 +1,7 @@
 use Rattle.std.proofs.Common.{rules, ◌≡◌, ◌++◌, ◌∙◌, List, ap, Err}
 use Rattle.std.specs.Prelude.{pos}
 use Rattle.head_column.specs.declared.items.Sample.{Sample}
-use Rattle.index_parts.specs.declared.row.ChunkMeta.{ChunkMeta}
+use Rattle.index_text.specs.declared.row.ChunkMeta.{ChunkMeta}
 use Rattle.block_read.specs.declared.fault.PartFault.TheVariants.{Bad}
 use Rattle.block_read.proofs.Columns.{begun, followed, left_begun, left_over, next_at, not_followed, read_chunks, read_more}
 use Rattle.block_read.proofs.chunks.read_row.Goals as goal

@@ -1,6 +1,6 @@
 use Rattle.std.proofs.Common.{rules, ◌≡◌, ◌∙◌, sym, ap, subst, true}
 use Rattle.std.specs.Prelude.{pos, ◌+ℤ◌}
-use Rattle.block_text.specs.Sums.{Text}
+use Rattle.hw_bytes.specs.Sums.{Text}
 use Rattle.head_column.specs.Hours.{IsEdge, hour_start}
 use Rattle.block_files.specs.Meta.{meta_text}
 use Rattle.block_read.specs.Reading.{summary}

@@ -1,7 +1,7 @@
 use Rattle.std.proofs.Common.{◌≡◌, List, length, vec_len}
 use Rattle.head_column.specs.declared.items.Run.{Run}
 use Rattle.head_column.specs.declared.items.Sample.{Sample}
-use Rattle.index_parts.specs.declared.row.IndexRow.{IndexRow}
+use Rattle.index_text.specs.declared.row.IndexRow.{IndexRow}
 use Rattle.block_read.specs.declared.rows.BlockRow.{BlockRow}
 use Rattle.block_read.proofs.Popped.{Shared}
 use Rattle.block_read.proofs.joining.join_rows.Given as goal

@@ -1,9 +1,9 @@
 use Rattle.std.proofs.Common.{◌≡◌, Err, length, ap, sym, subst, ◌∙◌, ◌<◌}
 use Rattle.std.proofs.Common.{map, arith}
 use Rattle.std.proofs.lemmas.Result.{IfErr-at_err}
-use Rattle.block_text.specs.Sums.{Text}
-use Rattle.index_parts.specs.declared.fault.ReadFault.TheVariants as read
-use Rattle.index_parts.specs.Rows.{IsChain, IsIndex}
+use Rattle.hw_bytes.specs.Sums.{Text}
+use Rattle.index_text.specs.declared.fault.ReadFault.TheVariants as read
+use Rattle.index_text.specs.Rows.{IsChain, IsIndex}
 use Rattle.block_read.specs.declared.rows.BlockRow.{BlockRow}
 use Rattle.block_read.specs.Blocks.{index_rows, samples_of_rows}
 use Rattle.block_read.proofs.AllRows.{as_many}

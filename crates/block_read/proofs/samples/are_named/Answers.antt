@@ -1,6 +1,6 @@
 use Rattle.std.proofs.Common.{◌≡◌, ◌∙◌, List, true, get_or, length, sym, ap, arith, below_more}
 use Rattle.std.specs.Prelude.{pos}
-use Rattle.index_parts.specs.declared.row.ChunkMeta.{ChunkMeta}
+use Rattle.index_text.specs.declared.row.ChunkMeta.{ChunkMeta}
 use Rattle.block_read.proofs.Lists.{same_lists, named_length, named_here}
 use Rattle.block_read.proofs.samples.are_named.Goals as goal
 

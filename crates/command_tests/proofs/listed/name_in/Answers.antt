@@ -2,7 +2,7 @@ use Rattle.std.specs.Prelude.{IsTrue}
 use Rattle.std.proofs.Common.{subst, sym, ◌∙◌}
 use Rattle.std.proofs.lemmas.Bool.{false≢true}
 use Rattle.std.proofs.lemmas.List.{append_cancel_left}
-use Rattle.prom_files.specs.Targets.{IsName}
+use Rattle.new_files.specs.Targets.{IsName}
 use Rattle.command_tests.proofs.listed.name_in.Goals as goal
 use Rattle.command_tests.proofs.listed.name_in.Goals.{in_default-via-in-Some+else-is_name, in_default-via-in_default}
 

@@ -1,7 +1,7 @@
 use Rattle.std.specs.Prelude.{bytes_eq, map, string_bytes}
 use Rattle.std.specs.List.{list_any}
 use Rattle.std.proofs.Common.{◌≡◌, ap, subst, sym, ◌∙◌, ◌++◌, ◌∷◌, []}
-use Rattle.prom_files.specs.Folders.{FileAt}
+use Rattle.new_files.specs.Folders.{FileAt}
 use Rattle.command_tests.specs.Listings.{AreNamesAt}
 use Rattle.command_tests.proofs.Listings.{any_contains, any_is, name_known, name_new, name_of_none}
 use Rattle.command_tests.proofs.listing.add_name.Goals as goal

@@ -1,6 +1,6 @@
 use Rattle.std.specs.Prelude.{None, false, map}
 use Rattle.std.proofs.Common.{◌≡◌, ◌++◌, ◌∷◌, [], ap, subst, sym, ◌∙◌}
-use Rattle.prom_store.specs.Calls.{Call, Called}
+use Rattle.store.specs.Calls.{Call, Called}
 use Rattle.command_tests.specs.Listings.{Did, MayBe, file_of, relisted, renames, standing_in}
 use Rattle.command_tests.proofs.Listings.{created, none_found}
 use Rattle.command_tests.proofs.listing.create.Goals as goal

@@ -1,6 +1,6 @@
 use Rattle.std.specs.Prelude.{map}
 use Rattle.std.proofs.Common.{◌≡◌, ap, sym}
-use Rattle.prom_store.specs.declared.fault.Status.TheVariants.{Done}
+use Rattle.answers.specs.declared.fault.Status.TheVariants.{Done}
 use Rattle.command_tests.specs.Listings.{file_of}
 use Rattle.command_tests.specs.Noted.{calls_of}
 use Rattle.command_tests.specs.Outlasts.{AppendOutlasts}

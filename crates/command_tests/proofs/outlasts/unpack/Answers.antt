@@ -1,7 +1,7 @@
 use Rattle.std.specs.Prelude.{map}
 use Rattle.std.proofs.Common.{◌≡◌, ap, sym}
-use Rattle.unpack_commands.specs.Folders.{ending_of}
-use Rattle.unpack_commands.specs.Rescues.{rescue_ending_of}
+use Rattle.unpack_command.specs.Folders.{ending_of}
+use Rattle.unpack_command.specs.Rescues.{rescue_ending_of}
 use Rattle.command_tests.specs.Listings.{file_of}
 use Rattle.command_tests.specs.Noted.{calls_of}
 use Rattle.command_tests.specs.Outlasts.{RescueOutlasts, UnpackOutlasts}

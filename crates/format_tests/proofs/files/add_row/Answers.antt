@@ -1,7 +1,7 @@
 use Rattle.std.proofs.Common.{◌≤◌, length, refl}
 use Rattle.std.proofs.lemmas.List.Elements.{All-map}
 use Rattle.head_column.specs.declared.chunk.Chunk.{Chunk}
-use Rattle.block_text.specs.Sums.{Text}
+use Rattle.hw_bytes.specs.Sums.{Text}
 use Rattle.block_files.specs.Files.{longest_chunk}
 use Rattle.format_tests.proofs.files.add_row.Goals as goal
 

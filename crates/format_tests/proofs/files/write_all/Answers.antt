@@ -1,7 +1,7 @@
 use Rattle.std.proofs.Common.{◌≤◌, List, [], ◌∷◌, length, refl, All}
 use Rattle.std.proofs.lemmas.List.Elements.{All-append, All-head, All-map, All-nil, All-tail}
 use Rattle.head_column.specs.declared.chunk.Chunk.{Chunk}
-use Rattle.block_text.specs.Sums.{Text}
+use Rattle.hw_bytes.specs.Sums.{Text}
 use Rattle.block_files.specs.Files.{AreShort, all_texts, longest_chunk, row_texts}
 use Rattle.format_tests.proofs.files.write_all.Goals as goal
 

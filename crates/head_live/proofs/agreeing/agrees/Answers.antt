@@ -3,14 +3,14 @@ use Rattle.std.proofs.lemmas.List.{take_all}
 use Rattle.std.proofs.lemmas.List.Elements.{All-append}
 use Rattle.std.proofs.lemmas.List.Sorted.{IsPermutation-map}
 use Rattle.std.specs.List.Sorted.{IsPermutation}
-use Rattle.head_judging.specs.declared.placed.PlacedSample.{PlacedSample}
-use Rattle.head_answers.specs.Agreeing.{IsExpiredIn, IsStaleIn, all_told, new_rows}
-use Rattle.head_answers.specs.Placing.{AreInSeries, IsPossible, row_at}
-use Rattle.head_judging.specs.Placed.{IsBefore}
-use Rattle.head_judging.specs.Rows.{Row}
-use Rattle.head_judging.specs.Told.{Answer, AppenderState, accepted_rows, answer_of}
-use Rattle.head_answers.proofs.CloseLemmas.{accepted_rows-append, told_more_by}
-use Rattle.head_answers.proofs.DifferLemmas.{possible, same_placed, told_at}
+use Rattle.head_live.specs.declared.placed.PlacedSample.{PlacedSample}
+use Rattle.head_live.specs.Agreeing.{IsExpiredIn, IsStaleIn, all_told, new_rows}
+use Rattle.head_live.specs.Placing.{AreInSeries, IsPossible, row_at}
+use Rattle.head_live.specs.Placed.{IsBefore}
+use Rattle.head_live.specs.Rows.{Row}
+use Rattle.head_live.specs.Told.{Answer, AppenderState, accepted_rows, answer_of}
+use Rattle.head_live.proofs.CloseLemmas.{accepted_rows-append, told_more_by}
+use Rattle.head_live.proofs.DifferLemmas.{possible, same_placed, told_at}
 use Rattle.head_live.proofs.agreeing.agrees.Goals as goal
 
 pub loop-appender-preserved : goal.loop-appender-preserved

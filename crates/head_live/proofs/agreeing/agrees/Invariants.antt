@@ -1,7 +1,7 @@
 use Rattle.std.proofs.Common.{◌≡◌, All, map, take}
-use Rattle.head_answers.specs.Agreeing.{IsExpiredIn, IsStaleIn, all_told}
-use Rattle.head_answers.specs.Placing.{AreInSeries, row_at}
-use Rattle.head_judging.specs.Told.{accepted_rows}
+use Rattle.head_live.specs.Agreeing.{IsExpiredIn, IsStaleIn, all_told}
+use Rattle.head_live.specs.Placing.{AreInSeries, row_at}
+use Rattle.head_live.specs.Told.{accepted_rows}
 use Rattle.head_live.proofs.agreeing.agrees.Given as goal
 
 abbrev pub invariant-loop-appender : goal.invariant-loop-appender

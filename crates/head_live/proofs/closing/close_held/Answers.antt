@@ -1,9 +1,9 @@
 use Rattle.std.proofs.Common.{◌≡◌, ◌^◌, ◌<◌, ◌≤◌, ◌∙◌, Some, ap, arith, rules, subst, sym, true≢false}
 use Rattle.std.specs.Prelude.{MatchOption}
 use Rattle.head_core.specs.Content.{Content}
-use Rattle.head_answers.specs.Agreeing.{Agrees, all_told}
+use Rattle.head_live.specs.Agreeing.{Agrees, all_told}
 use Rattle.head_live.specs.Closing.{HeldState, held_live}
-use Rattle.logged_head.specs.Moments.{Leads, Moment}
+use Rattle.head_live.specs.Moments.{Leads, Moment}
 use Rattle.head_live.proofs.TotalLemmas.{closable_total}
 use Rattle.head_live.proofs.closing.close_held.Goals as goal
 

@@ -27,7 +27,7 @@ finish-requires-send-J g c κs within = search (sendable, crosses, table_sync, P
 
 pub returns : goal.returns
 returns g c =
-    let workers = c.args.workers in
+    let workers = c.args.workers.number in
     let sets = by_slot c.args.table.now.series in
     let jobs = c.in_ok-jobs.jobs.items in
     let listed = c.in_ok-listed.listed.items in
@@ -35,6 +35,6 @@ returns g c =
     let many : 0 + vec_len c.in_ok-listed.listed ≡ workers = omega (arith, c.in_ok-listed.ensures.long, c.in_ok-jobs.ensures.count) in
     record {
       postings =
-          subst (λ (sets : List (ℕ × Labels)). IsPostingsOf sets c.in_ok-merge_all.field-0) (all_belong workers sets c.requires.some)
+          subst (λ (sets : List (ℕ × Labels)). IsPostingsOf sets c.in_ok-merge_all.field-0) (all_belong workers sets c.args.workers.some)
           (subst (λ (end : ℕ). IsPostingsOf (belonging workers 0 end sets) c.in_ok-merge_all.field-0) many merged);
     }

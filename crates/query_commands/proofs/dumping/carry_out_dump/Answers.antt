@@ -1,4 +1,4 @@
-use Rattle.prom_commands.proofs.Answered.{nothing_told}
+use Rattle.answers.proofs.Answered.{nothing_told}
 use Rattle.query_commands.proofs.dumping.carry_out_dump.Goals as goal
 
 pub returns-in-Err : goal.returns-in-Err

@@ -1,9 +1,9 @@
 use Rattle.std.proofs.Common.{List, refl, subst, sym, ℕ}
 use Rattle.std.specs.Prelude.{string_bytes}
-use Rattle.head_dump.specs.Dumps.{IsDump}
-use Rattle.prom_commands.proofs.Answered.{tells_up_to}
-use Rattle.log_source.proofs.Told.{told_err}
-use Rattle.log_source.proofs.Unread.{no_memory}
+use Rattle.query_commands.specs.Dumps.{IsDump}
+use Rattle.answers.proofs.Answered.{tells_up_to}
+use Rattle.log_directory.proofs.Told.{told_err}
+use Rattle.log_directory.proofs.Unread.{no_memory}
 use Rattle.query_commands.proofs.dumping.dumped.Goals as goal
 
 pub returns-in_err-text : goal.returns-in_err-text

@@ -1,7 +1,7 @@
 use Rattle.std.proofs.Common.{subst, sym}
-use Rattle.prom_store.specs.Faults.{TellsNoDamage}
-use Rattle.prom_store.specs.Views.{view_of}
-use Rattle.log_source.proofs.Told.{told_err}
+use Rattle.answers.specs.Faults.{TellsNoDamage}
+use Rattle.store.specs.Views.{view_of}
+use Rattle.log_directory.proofs.Told.{told_err}
 use Rattle.query_commands.proofs.Requested.{dumped_in}
 use Rattle.query_commands.proofs.dumping.execute.Goals as goal
 

@@ -1,5 +1,5 @@
 use Rattle.std.proofs.Common.{rules, ◌≡◌, arith, Err}
-use Rattle.block_text.specs.declared.fault.WriteFault.TheVariants.{TooLarge}
+use Rattle.hw_bytes.specs.declared.write_fault.WriteFault.TheVariants.{TooLarge}
 use Rattle.block_files.proofs.RowLaws.{chunk_short, row_added, row_count, row_references_are, row_too_large}
 use Rattle.block_files.proofs.files.ChunkFiles.add_row.Goals as goal
 

@@ -9,9 +9,9 @@ pub queue_all-requires-clause-fit : goal.queue_all-requires-clause-fit
 queue_all-requires-clause-fit g c =
     let s = c.self.inside in
     let t = c.spread.inside in
-    let d = held s.tag s.workers s.slots s.count s.parts.items in
+    let d = held s.tag s.workers.number s.slots s.count s.parts.items in
     let within : All (λ p. p.0 < length d.builders) c.args.spread.items = rw (← c.self.view_is) at c.requires.exist in
-    let same : c.args.spread.workers ≡ s.workers = rw (← c.self.view_is) at c.requires.workers in
+    let same : c.args.spread.workers ≡ s.workers.number = rw (← c.self.view_is) at c.requires.workers in
     let spread : IsSpread c.args.spread t.count (map (λ l. l.items) t.lists.items) = rw c.spread.view_is at c.spread.invariant.0 in
     lists_fit d s.slots s.count t.count s.parts.items c.args.spread t.lists.items c.self.invariant.0 same within spread
 
@@ -19,9 +19,9 @@ pub invariant_of-result : goal.invariant_of-result
 invariant_of-result g c =
     let s = c.self.inside in
     let t = c.spread.inside in
-    let d = held s.tag s.workers s.slots s.count s.parts.items in
+    let d = held s.tag s.workers.number s.slots s.count s.parts.items in
     let within : All (λ p. p.0 < length d.builders) c.args.spread.items = rw (← c.self.view_is) at c.requires.exist in
-    let same : c.args.spread.workers ≡ s.workers = rw (← c.self.view_is) at c.requires.workers in
+    let same : c.args.spread.workers ≡ s.workers.number = rw (← c.self.view_is) at c.requires.workers in
     let spread : IsSpread c.args.spread t.count (map (λ l. l.items) t.lists.items) = rw c.spread.view_is at c.spread.invariant.0 in
     let h = holds_dealt d s.slots s.count t.count s.parts.items c.queue_all.new.parts.items c.args.spread t.lists.items c.self.invariant.0 same within spread c.queue_all.ensures.each c.in_ok-queue_all.ensures.queued in
     (holds_view _ s.slots (s.count + t.count) _ h, c.self.invariant.1, c.self.invariant.2)
@@ -30,9 +30,9 @@ pub returns : goal.returns
 returns g c =
     let s = c.self.inside in
     let t = c.spread.inside in
-    let d = held s.tag s.workers s.slots s.count s.parts.items in
+    let d = held s.tag s.workers.number s.slots s.count s.parts.items in
     let within : All (λ p. p.0 < length d.builders) c.args.spread.items = rw (← c.self.view_is) at c.requires.exist in
-    let same : c.args.spread.workers ≡ s.workers = rw (← c.self.view_is) at c.requires.workers in
+    let same : c.args.spread.workers ≡ s.workers.number = rw (← c.self.view_is) at c.requires.workers in
     let spread : IsSpread c.args.spread t.count (map (λ l. l.items) t.lists.items) = rw c.spread.view_is at c.spread.invariant.0 in
     let h = holds_dealt d s.slots s.count t.count s.parts.items c.queue_all.new.parts.items c.args.spread t.lists.items c.self.invariant.0 same within spread c.queue_all.ensures.each c.in_ok-queue_all.ensures.queued in
     record { dealt = rw (← c.self.view_is) (holds_is _ s.slots (s.count + t.count) _ h ∙ sym (dealt_all-is d c.args.spread.items)) }

@@ -4,14 +4,14 @@ use Rattle.head_deal.proofs.spreads.Spread.in_room.Goals as goal
 
 pub invariant_of-result : goal.invariant_of-result
 invariant_of-result g c =
-    let s = c.seats.inside in
     let each = c.in_ok-lists.ensures.each in
-    let h = spread_new s.workers c.in_ok-lists.lists.items c.seats.invariant.0 c.seats.invariant.1 each (λ k v low. c.in_ok-lists.ensures.empty k v (omega arith)) in
+    let workers = c.seats.inside.workers in
+    let h = spread_new workers.number c.in_ok-lists.lists.items workers.some workers.most each (λ k v low. c.in_ok-lists.ensures.empty k v (omega arith)) in
     (spread_view _ 0 _ h, omega arith)
 
 pub returns : goal.returns
 returns g c =
-    let s = c.seats.inside in
     let each = c.in_ok-lists.ensures.each in
-    let h = spread_new s.workers c.in_ok-lists.lists.items c.seats.invariant.0 c.seats.invariant.1 each (λ k v low. c.in_ok-lists.ensures.empty k v (omega arith)) in
-    rw (← c.seats.view_is) (ap (λ x. record { workers = s.workers; items = x }) (spread_is _ 0 _ h))
+    let workers = c.seats.inside.workers in
+    let h = spread_new workers.number c.in_ok-lists.lists.items workers.some workers.most each (λ k v low. c.in_ok-lists.ensures.empty k v (omega arith)) in
+    rw (← c.seats.view_is) (ap (λ x. record { workers = workers.number; items = x }) (spread_is _ 0 _ h))

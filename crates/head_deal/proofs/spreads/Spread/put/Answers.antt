@@ -10,9 +10,9 @@ invariant_of-self g c =
     let seats = c.seats.inside in
     let none : Seat = record { worker = 0; element = 0 } in
     let old : SpreadValue _ = record { workers = s.workers; items = spread_items s.workers s.count (map (λ l. l.items) s.lists.items) } in
-    let same : seats.workers ≡ s.workers = rw (← c.seats.view_is, ← c.self.view_is) at c.requires.alike in
+    let same : seats.workers.number ≡ s.workers = rw (← c.seats.view_is, ← c.self.view_is) at c.requires.alike in
     let low : c.args.slot < length seats.seats.now = rw (← c.seats.view_is) at c.requires.exists in
-    let put = put-in old s.count c.args.slot c.args.item seats.workers seats.seats.now none s.lists.items c.index_mut-list.result.now c.push.new.self same c.seats.invariant.2 low c.index_mut-list.ensures.value c.in-Ok.ensures.items c.self.invariant.0 in
+    let put = put-in old s.count c.args.slot c.args.item seats.workers.number seats.seats.now none s.lists.items c.index_mut-list.result.now c.push.new.self same c.seats.invariant low c.index_mut-list.ensures.value c.in-Ok.ensures.items c.self.invariant.0 in
     let room = c.if-self-ge4294967296.false in
     (spread_view _ _ _ put, omega arith)
 
@@ -28,9 +28,9 @@ returns-in-Ok-clause-put g c =
     let seats = c.seats.inside in
     let none : Seat = record { worker = 0; element = 0 } in
     let old : SpreadValue _ = record { workers = s.workers; items = spread_items s.workers s.count (map (λ l. l.items) s.lists.items) } in
-    let same : seats.workers ≡ s.workers = rw (← c.seats.view_is, ← c.self.view_is) at c.requires.alike in
+    let same : seats.workers.number ≡ s.workers = rw (← c.seats.view_is, ← c.self.view_is) at c.requires.alike in
     let low : c.args.slot < length seats.seats.now = rw (← c.seats.view_is) at c.requires.exists in
-    let put = put-in old s.count c.args.slot c.args.item seats.workers seats.seats.now none s.lists.items c.index_mut-list.result.now c.push.new.self same c.seats.invariant.2 low c.index_mut-list.ensures.value c.in-Ok.ensures.items c.self.invariant.0 in
+    let put = put-in old s.count c.args.slot c.args.item seats.workers.number seats.seats.now none s.lists.items c.index_mut-list.result.now c.push.new.self same c.seats.invariant low c.index_mut-list.ensures.value c.in-Ok.ensures.items c.self.invariant.0 in
     rw (← c.self.view_is) (ap (λ x. record { workers = s.workers; items = x }) (spread_is _ _ _ put))
 
 pub returns-in-Err-clause-refused : goal.returns-in-Err-clause-refused

@@ -1,0 +1,5 @@
+pub mod Damages
+pub mod Faults
+pub mod Lines
+pub mod Answers
+pub mod Spellings

@@ -1,5 +1,0 @@
-use Rattle.block_commands.proofs.Unlimited.{all_taken}
-use Rattle.block_commands.proofs.laws.no_limit.Goals as goal
-
-pub returns : goal.returns
-returns c = all_taken c.valid_records.ensures.fit c.valid_records.ensures.least

@@ -1,6 +1,0 @@
-use Rattle.std.proofs.Common.{◌≡◌, ◌++◌}
-use Rattle.std.specs.Prelude.{replicate}
-use Rattle.block_text.proofs.padding.put_zeros.Given as goal
-
-abbrev pub invariant-loop : goal.invariant-loop
-invariant-loop l = l.bytes.items ≡ l.fn.bytes.items ++ replicate l.counter 0

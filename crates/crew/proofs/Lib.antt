@@ -1,0 +1,2 @@
+pub mod BothDone
+pub mod TicketRule

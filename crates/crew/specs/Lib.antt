@@ -1,0 +1,3 @@
+pub mod BothDone
+pub mod Jobs
+pub mod Tickets

@@ -1,2 +1,0 @@
-pub mod CloseLemmas
-pub mod DifferLemmas

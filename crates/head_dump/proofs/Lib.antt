@@ -1,3 +1,0 @@
-pub mod Dumped
-pub mod Growing
-pub mod RunSearch

@@ -1,2 +1,0 @@
-pub mod Selections
-pub mod Dumps

@@ -1,9 +1,0 @@
-pub mod Rows
-pub mod Sets
-pub mod Refused
-pub mod Verdicts
-pub mod Batch
-pub mod Judged
-pub mod Faults
-pub mod Told
-pub mod Placed

@@ -1,4 +1,0 @@
-pub mod Counted
-pub mod Ending
-pub mod Growing
-pub mod Lists

@@ -1,3 +1,0 @@
-pub mod Applying
-pub mod Faults
-pub mod Standing

@@ -1,5 +1,0 @@
-use Rattle.head_tickets.proofs.TicketRule.{stands_in_one, stands_in_none}
-use Rattle.head_tickets.proofs.claims.one_drawer.Goals as goal
-
-pub returns : goal.returns
-returns c = record { drawn = stands_in_one; left = stands_in_none }

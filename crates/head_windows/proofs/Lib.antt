@@ -1,4 +1,0 @@
-pub mod Ahead
-pub mod Items
-pub mod Made
-pub mod RecordByRecord

@@ -1,3 +1,0 @@
-pub mod Makes
-pub mod Next
-pub mod Standing

@@ -1,8 +1,0 @@
-use Rattle.std.proofs.Common.{◌≡◌, map, take}
-use Rattle.wal_record.specs.declared.labels.Label.{Label}
-use Rattle.index_parts.specs.Gives.{nows}
-use Rattle.index_parts.specs.Lent.{label_of}
-use Rattle.index_parts.proofs.gathering.names_of.Given as goal
-
-abbrev pub invariant-loop-label : goal.invariant-loop-label
-invariant-loop-label l = nows l.names.items ≡ map (λ (x : Label). x.name) (map label_of (take l.label-index l.labels))

@@ -1,9 +1,0 @@
-use Rattle.std.proofs.Common.{◌≡◌, ◌∷◌, [], map, take}
-use Rattle.std.specs.List.{flat_map}
-use Rattle.wal_record.specs.declared.labels.Label.{Label}
-use Rattle.index_parts.specs.Gives.{nows}
-use Rattle.index_parts.specs.Lent.{label_of}
-use Rattle.index_parts.proofs.gathering.texts_of.Given as goal
-
-abbrev pub invariant-loop-label : goal.invariant-loop-label
-invariant-loop-label l = nows l.texts.items ≡ flat_map (λ (x : Label). x.name ∷ x.value ∷ []) (map label_of (take l.label-index l.labels))

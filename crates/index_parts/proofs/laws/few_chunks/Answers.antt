@@ -1,5 +1,0 @@
-use Rattle.index_parts.proofs.Few.{few_chunks}
-use Rattle.index_parts.proofs.laws.few_chunks.Goals as goal
-
-pub returns : goal.returns
-returns c = few_chunks

@@ -1,7 +1,0 @@
-use Rattle.std.proofs.Common.{arith}
-use Rattle.index_parts.specs.Tests.{comes_before}
-use Rattle.index_parts.proofs.Chains.{chain_whole}
-use Rattle.index_parts.proofs.rows.ascend.Goals as goal
-
-pub returns : goal.returns
-returns c = chain_whole comes_before c.args.rows.now c.loop-i.i (omega (arith, c.loop-i-test.false)) c.loop-i.invariant.so_far

@@ -1,7 +1,0 @@
-use Rattle.std.proofs.Common.{◌≡◌, take}
-use Rattle.index_parts.specs.Gives.{nows}
-use Rattle.index_parts.specs.Reading.{labels_at}
-use Rattle.index_parts.proofs.rows.labels_of.Given as goal
-
-abbrev pub invariant-loop-i : goal.invariant-loop-i
-invariant-loop-i l = l.labels ≡ labels_at (nows l.symbols) (take l.i l.references)

@@ -1,9 +1,0 @@
-use Rattle.std.proofs.Common.{◌≡◌, ◌-◌, length}
-use Rattle.std.specs.Prelude.{map}
-use Rattle.index_parts.proofs.Loops.{with_items}
-use Rattle.index_parts.specs.Reading.{series_element_at, elements}
-use Rattle.index_parts.specs.Stored.{stored}
-use Rattle.index_parts.proofs.stored.series_section.Given as goal
-
-abbrev pub invariant-loop : goal.invariant-loop
-invariant-loop l = with_items (map stored l.found.items) (elements (series_element_at l.limit l.stop) (length l.section - l.counter) l.rest) ≡ elements (series_element_at l.limit l.stop) (length l.section) l.section

@@ -1,7 +1,0 @@
--- The value of a stored series.
-use Rattle.index_parts.specs.declared.stored.StoredSeries.{StoredSeries}
-use Rattle.index_parts.specs.Fields.{Stored}
-
--- a stored series
-abbrev pub stored : StoredSeries → Stored
-stored s = record { labels = s.labels; chunks = s.chunks }

@@ -1,0 +1,51 @@
+//! Sorted lists of distinct texts and labels.
+
+ghost use Rattle.std.specs.Prelude.{◌≡◌, map, IfOk};
+ghost use Rattle.index_text.specs.Gives.{nows};
+ghost use Rattle.index_text.specs.Lent.{label_of, row_label_of, compare_row_label};
+ghost use Rattle.index_text.specs.Sets.{ascending, text_cmp};
+ghost use Rattle.wal_record.specs.Labels.{compare_label};
+
+/// A borrowed label. Labels are ordered by name, then by value.
+#[derive(Clone, Copy, PartialEq, Eq, PartialOrd, Ord)]
+pub(crate) struct LentLabel<'a> {
+    pub(crate) name: &'a [u8],
+    pub(crate) value: &'a [u8],
+}
+
+/// A borrowed label with the index of its row. They are ordered by label, then by row.
+#[derive(Clone, Copy, PartialEq, Eq, PartialOrd, Ord)]
+pub(crate) struct RowLabel<'a> {
+    pub(crate) label: LentLabel<'a>,
+    pub(crate) row: usize,
+}
+
+// Sorts texts and drops repeats.
+pub(crate) fn distinct_texts<'a>(texts: Vec<&'a [u8]>) -> Vec<&'a [u8]>
+    ensures { nows result.items ≡ ascending text_cmp (nows texts.entry.items) }
+{
+    let mut texts = texts;
+    texts.sort_unstable();
+    texts.dedup();
+    texts
+}
+
+// Sorts labels and drops repeats.
+pub(crate) fn distinct_labels<'a>(labels: Vec<LentLabel<'a>>) -> Vec<LentLabel<'a>>
+    ensures { map label_of result.items ≡ ascending compare_label (map label_of labels.entry.items) }
+{
+    let mut labels = labels;
+    labels.sort_unstable();
+    labels.dedup();
+    labels
+}
+
+// Sorts the labels of rows and drops repeats.
+pub(crate) fn sorted_row_labels<'a>(labels: Vec<RowLabel<'a>>) -> Vec<RowLabel<'a>>
+    ensures { map row_label_of result.items ≡ ascending compare_row_label (map row_label_of labels.entry.items) }
+{
+    let mut labels = labels;
+    labels.sort_unstable();
+    labels.dedup();
+    labels
+}

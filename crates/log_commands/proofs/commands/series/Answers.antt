@@ -1,0 +1,17 @@
+use Rattle.std.proofs.Common.{subst, sym}
+use Rattle.answers.specs.Faults.{TellsNoDamage}
+use Rattle.store.specs.Views.{view_of}
+use Rattle.log_commands.proofs.Answered.{series_told}
+use Rattle.log_directory.proofs.Told.{told_err}
+use Rattle.log_commands.proofs.commands.series.Goals as goal
+
+pub returns-in_err-pair : goal.returns-in_err-pair
+returns-in_err-pair g c = told_err _ _ c.from_residual.result c.from_residual.ensures.1 (λ fault is. subst TellsNoDamage (sym is) c.in_err-pair.ensures)
+
+pub returns-in_err-replayed : goal.returns-in_err-replayed
+returns-in_err-replayed g c = told_err _ _ c.from_residual-in_err-replayed.result c.from_residual-in_err-replayed.ensures.1 (λ fault is. subst TellsNoDamage (sym is) c.in_err-replayed.ensures.undamaged)
+
+pub returns : goal.returns
+returns g c =
+    series_told c.args.form (view_of (g.S.Store.holds c.args.store.now)) c.args.dir.now c.in_ok-replayed.replayed.flaw TellsNoDamage c.selected.result _ c.args.options.now.min_valid c.in_ok-replayed.replayed.head.content _
+    c.in_ok-replayed.ensures.content c.in_ok-pair.ensures c.selected.ensures

@@ -1,0 +1,7 @@
+//! The commands on a log, over any store: each reads the log in a directory and makes the text to print.
+#![tactic(auto)]
+
+mod commands;
+mod report;
+
+pub use commands::carry_out;

@@ -1,0 +1,13 @@
+pub mod Listings
+pub mod Directory
+pub mod Texts
+pub mod Unpacked
+pub mod Rescued
+pub mod LostLines
+pub mod RescueSteps
+pub mod Slots
+pub mod Sources
+pub mod Metas
+pub mod Greatest
+pub mod Servers
+pub mod Replays

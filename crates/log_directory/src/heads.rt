@@ -1,0 +1,64 @@
+//! Reading a log without damage, and replaying it to its head.
+
+ghost use Rattle.std.specs.Prelude.{◌≡◌, false, IfOk, None, OnOk};
+ghost use Rattle.head_serial.specs.Replays.{IsReplayed};
+ghost use Rattle.log_directory.specs.Sources.{IsSourceIn};
+ghost use Rattle.store.specs.Views.{view_of};
+ghost use Rattle.answers.specs.Answers.{IsNoDamage};
+
+use crate::source::{Source, read_source};
+use answers::{DamageLine, Fault, Flaw, LogForm};
+use head_core::Head;
+use head_replay::{Options, replay};
+use progress::{Progress, extent_of};
+use std::alloc::Global;
+use std::sync::Wait;
+use std::thread::Threads;
+use store::Store;
+use wal_log::Input;
+
+/// Replays a log to its head, and drops the log. Returns `Damage` if the log is damaged.
+pub fn undamaged_head<R: Threads + Wait + Sync, P: Progress + Sync>(
+    rt: &R,
+    alloc: Global,
+    progress: &P,
+    log: Input,
+    options: &Options,
+) -> Result<Head, Fault>
+    ensures content { IfOk result (λ head. IsReplayed log options.now.min_valid None head.content) }
+    ensures sound { IfOk result (λ head. head.failed ≡ false) }
+{
+    progress.begin(&extent_of(&log, options));
+    let replayed = replay(rt, alloc, &log, options, progress);
+    progress.end();
+    let replayed = replayed?;
+    match replayed.damage {
+        None => Ok(replayed.head),
+        Some(damage) => Err(Fault::Damage(DamageLine(damage))),
+    }
+}
+
+// Returns `Damage` if a log was read up to damage. One of which parts are lost is not refused.
+fn check_undamaged(flaw: Option<Flaw>) -> Result<(), Fault>
+    ensures { OnOk result (IsNoDamage flaw) }
+{
+    match flaw {
+        Some(Flaw::Damage(damage)) => Err(Fault::Damage(DamageLine(damage))),
+        _ => Ok(()),
+    }
+}
+
+/// Reads the log in a directory in a form. Returns `Damage` if it was read up to damage. One of which parts are lost is not refused.
+pub fn undamaged_source<S: Store>(
+    alloc: Global,
+    store: &S,
+    dir: &str,
+    form: LogForm,
+) -> Result<Source, Fault>
+    ensures source { IfOk result (λ source. IsSourceIn form (view_of (S.holds store.now)) dir.now source.log source.flaw) }
+    ensures unhurt { IfOk result (λ source. IsNoDamage source.flaw) }
+{
+    let source = read_source(alloc, store, dir, form)?;
+    check_undamaged(source.flaw)?;
+    Ok(source)
+}

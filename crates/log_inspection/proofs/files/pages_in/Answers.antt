@@ -1,6 +1,0 @@
-use Rattle.std.proofs.Common.{sym, ◌∙◌}
-use Rattle.wal_page.proofs.Cuts.{length-pages}
-use Rattle.log_inspection.proofs.files.pages_in.Goals as goal
-
-pub returns : goal.returns
-returns c = c.div_ceil.ensures ∙ sym (length-pages c.args.bytes.now)

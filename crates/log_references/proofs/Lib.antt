@@ -1,4 +1,0 @@
-mod Bits
-mod Distinct
-mod Notes
-mod Taken

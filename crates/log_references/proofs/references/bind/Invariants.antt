@@ -1,8 +1,0 @@
-use Rattle.std.proofs.Common.{◌≡◌, ◌||◌, ℕ, nat_eq, take}
-use Rattle.std.specs.List.{list_any}
-use Rattle.log_references.specs.ReferenceSets.{has}
-use Rattle.log_references.specs.Unbound.{series_references}
-use Rattle.log_references.proofs.references.bind.Given as goal
-
-abbrev pub invariant-loop-entry : goal.invariant-loop-entry
-invariant-loop-entry l = (r : ℕ) → has l.bound r ≡ (list_any (nat_eq r) (series_references (take l.entry-index l.series)) || has l.fn.bound r)

@@ -1,3 +1,0 @@
-pub mod ReferenceSets
-pub mod Unbound
-pub mod Keeping

@@ -1,7 +1,0 @@
-use Rattle.std.proofs.Common.{◌≡◌, length, take}
-use Rattle.log_source.specs.Sources.{lost_in}
-use Rattle.log_source.proofs.flaws.lost_count.Given as goal
-
--- the parts of the files so far
-abbrev pub invariant-loop-file : goal.invariant-loop-file
-invariant-loop-file l = l.count ≡ length (lost_in (take l.file-index l.files))

@@ -1,7 +1,0 @@
-pub mod Distinct
-pub mod Ends
-pub mod Events
-pub mod Skipped
-pub mod Steps
-pub mod Taken
-pub mod Worked

@@ -1,4 +1,0 @@
-pub mod ValidRows
-pub mod Leading
-pub mod Appending
-pub mod Sends

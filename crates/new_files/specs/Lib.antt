@@ -1,0 +1,9 @@
+pub mod Crashes
+pub mod Files
+pub mod Folders
+pub mod Orders
+pub mod Segments
+pub mod Shown
+pub mod Targets
+pub mod Abandoned
+pub mod Faults

@@ -1,3 +1,0 @@
-pub mod Answered
-pub mod Lines
-pub mod SpellingLaws

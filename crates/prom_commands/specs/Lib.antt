@@ -1,4 +1,0 @@
-pub mod Answers
-pub mod Printed
-pub mod Replays
-pub mod Spellings

@@ -1,5 +1,0 @@
-use Rattle.prom_figures.proofs.Pace.{none_without_terminal, ten_a_second}
-use Rattle.prom_figures.proofs.laws.progress_lines.Goals as goal
-
-pub returns : goal.returns
-returns c = record { pace = ten_a_second; quiet = none_without_terminal }

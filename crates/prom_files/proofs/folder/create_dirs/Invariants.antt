@@ -1,7 +1,0 @@
-use Rattle.std.proofs.Common.{map, string_bytes, take}
-use Rattle.prom_files.specs.Folders.{create_dirs as dirs_created}
-use Rattle.prom_files.specs.Orders.{DidAll}
-use Rattle.prom_files.proofs.folder.create_dirs.Given as goal
-
-abbrev pub invariant-loop-dir : goal.invariant-loop-dir
-invariant-loop-dir g l = DidAll g.S.Store.did l.initial.store (dirs_created (map string_bytes (take l.dir-index l.dirs))) l.store

@@ -1,4 +1,0 @@
-mod Numbers
-mod Showing
-pub mod Reading
-pub mod Zipped

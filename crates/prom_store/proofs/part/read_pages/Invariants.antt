@@ -1,5 +1,0 @@
-use Rattle.std.proofs.Common.{◌-◌, ℕ}
-use Rattle.prom_store.proofs.part.read_pages.Given as goal
-
-abbrev pub decreases-loop-offset : goal.decreases-loop-offset
-decreases-loop-offset l = l.length - l.offset

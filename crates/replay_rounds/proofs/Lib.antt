@@ -1,0 +1,11 @@
+pub mod Counted
+pub mod Ending
+pub mod Growing
+pub mod Lists
+pub mod Pages
+pub mod Said
+pub mod Windows
+pub mod Ahead
+pub mod Items
+pub mod Made
+pub mod RecordByRecord

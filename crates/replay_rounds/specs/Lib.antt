@@ -1,0 +1,9 @@
+pub mod Applying
+pub mod Faults
+pub mod Dealt
+pub mod Records
+pub mod Shares
+pub mod Windows
+pub mod Makes
+pub mod Next
+pub mod Built

@@ -1,3 +1,0 @@
-mod Blocks
-mod Hints
-mod Reduced

@@ -1,3 +1,0 @@
-pub mod Metas
-pub mod Greatest
-pub mod Servers

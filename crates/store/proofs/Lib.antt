@@ -1,0 +1,3 @@
+mod Showing
+pub mod Reading
+pub mod Zipped

@@ -1,0 +1,7 @@
+pub mod Calls
+pub mod Disk
+pub mod Entries
+pub mod Found
+pub mod Several
+pub mod Shown
+pub mod Views

@@ -1,0 +1,19 @@
+//! Directories and files: what is asked of a store, what its calls find and do, and the store over real files.
+#![tactic(auto)]
+
+mod disk;
+mod part;
+mod paths;
+mod reason;
+mod several;
+mod shown;
+mod store;
+mod whole;
+
+pub use disk::{Disk, names_of};
+pub use paths::join;
+pub use reason::Reason;
+pub use several::{ReadFile, read_several};
+pub use shown::ShownPath;
+pub use store::{PartRead, Store, StoreFault, Unread};
+pub use whole::{read_whole, write_whole};
