@@ -12,10 +12,10 @@ returns-in_err-text-clause-crash g c =
     let source = c.in_ok-log.field-0 in
     let failed = not_ok _ c.from_residual-in_err-text.result c.from_residual-in_err-text.ensures.1 in
     hours_less g.S.Store.did g.S.Store.holds c.args.store.now request.form request.dir.now request.out.now request.options.min_valid (IsOk c.from_residual-in_err-text.result) _
-        (λ own. IfOk c.from_residual-in_err-text.result (λ answer. TellsLost answer own)) (λ own. Unit {0}) c.write_hours.new.store
-        (λ ok. absurd (failed ok)) (λ own ok told. absurd (failed ok))
-        (writes_hours g.S.Store.did g.S.Store.holds c.args.store.now request.form request.dir.now request.out.now request.options.min_valid source.log source.flaw c.in_ok-head.head.content _ (λ own. Unit {0}) c.write_hours.new.store
-        c.in_ok-log.ensures.source c.in_ok-log.ensures.unhurt c.in_ok-head.ensures.content (λ _. tt) c.in_err-text.ensures.crash)
+    (λ own. IfOk c.from_residual-in_err-text.result (λ answer. TellsLost answer own)) (λ own. Unit {0}) c.write_hours.new.store
+    (λ ok. absurd (failed ok)) (λ own ok told. absurd (failed ok))
+    (writes_hours g.S.Store.did g.S.Store.holds c.args.store.now request.form request.dir.now request.out.now request.options.min_valid source.log source.flaw c.in_ok-head.head.content _ (λ own. Unit {0}) c.write_hours.new.store
+    c.in_ok-log.ensures.source c.in_ok-log.ensures.unhurt c.in_ok-head.ensures.content (λ _. tt) c.in_err-text.ensures.crash)
 
 pub returns : goal.returns
 returns g c =
