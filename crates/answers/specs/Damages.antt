@@ -19,7 +19,7 @@ damage_text d = concat (
     codes "damage " ∷ kind_of_file d.place.in_checkpoint ∷ codes " " ∷ file_number d.place.file ∷ codes " offset " ∷ decimal d.place.offset
     ∷ codes " kind " ∷ decimal (number_of d.kind) ∷ codes " " ∷ name_of d.kind ∷ [])
 
--- what is told of two files of which the later does not have the number after the earlier
+-- what is reported of two files of which the later does not have the number after the earlier
 abbrev pub gap_text : Bool → ℕ → ℕ → List ℕ
 gap_text of_checkpoints number next =
     if number == next then kind_of_file of_checkpoints ++ (codes " " ++ (file_number number ++ codes " is there twice"))

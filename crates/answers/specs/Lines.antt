@@ -3,7 +3,7 @@ use Rattle.std.specs.Prelude.{ℕ, List, [], ◌∷◌, ◌++◌}
 use Rattle.std.specs.Fmt.{decimal}
 use Rattle.std.specs.List.{flat_map}
 
--- a number behind its name
+-- a number after its name
 abbrev pub number_line : List ℕ × ℕ → List ℕ
 number_line number = number.0 ++ (32 ∷ (decimal number.1 ++ 10 ∷ []))
 

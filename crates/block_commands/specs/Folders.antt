@@ -42,14 +42,14 @@ block_files folder dir block =
 abbrev pub chunks_in : List ℕ → List ℕ
 chunks_in folder = path_join folder (codes "chunks")
 
--- At the block's path stands what stood there, or a folder with its files; and all else as before, but for the unfinished folder.
+-- At the block's path is what was there, or a folder with its files; and all else as before, but for the unfinished folder.
 abbrev pub LeavesOldOrBlock : List ℕ → List ℕ → Block → Standing → (List ℕ → Option File) → Standing → Type 0
 LeavesOldOrBlock out name block =
     let path = path_join out name in
     let folder = unfinished_of path in
     LeavesOldOrFolder path folder (chunks_in folder ∷ []) (block_files folder (chunks_in folder) block)
 
--- At the block's path stands a folder with its files.
+-- At the block's path is a folder with its files.
 abbrev pub LeavesBlock : List ℕ → List ℕ → Block → Standing → (List ℕ → Option File) → Standing → Type 0
 LeavesBlock out name block =
     let path = path_join out name in

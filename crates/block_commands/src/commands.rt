@@ -34,7 +34,7 @@ fn execute<R: Threads + Wait + Sync, S: Store, P: Progress + Sync>(
     }
 }
 
-/// Carries out a request about blocks. A crash at any moment leaves the block whole or what stood before, and after status `Done` it is
+/// Carries out a request about blocks. A crash at any moment leaves the block whole or what was before, and after status `Done` it is
 /// whole. A block is made with one thread for each processor of `rt`.
 pub fn carry_out_block<R: Threads + Wait + Sync, S: Store, P: Progress + Sync>(
     rt: &R,

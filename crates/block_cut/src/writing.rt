@@ -110,7 +110,7 @@ fn name_chunks(
 
 // The chunk files of rows, and the entries of the chunks in the index.
 #[derive(Drop)]
-struct Placed {
+struct WrittenChunks {
     files: Items<Items<u8>>,
     metas: Vec<Items<ChunkMeta>>,
 }
@@ -120,7 +120,7 @@ fn place_chunks(
     alloc: Global,
     encoding: Encoding,
     rows: Vec<Items<Chunk>>,
-) -> Result<Placed, WriteFault>
+) -> Result<WrittenChunks, WriteFault>
     requires { AreShort rows.items }
     ensures files { IfOk result (λ placed. placed.files ≡ chunk_files encoding file_limit (all_texts rows.items)) }
     ensures metas { IfOk result (λ placed. placed.metas.items ≡ metas_in encoding rows.items) }
@@ -135,7 +135,7 @@ fn place_chunks(
         let row_metas = name_chunks(alloc, row.as_slice(), references.as_slice())?;
         metas.push(Items::from_vec(row_metas))?;
     }
-    Ok(Placed {
+    Ok(WrittenChunks {
         files: Items::from_vec(files.into_files()?),
         metas,
     })
@@ -240,7 +240,7 @@ pub(crate) fn write_block(
     let chunk_count = count_chunks(&chunks);
     // for the proof: no chunk is too long
     short_chunk();
-    let Placed { files, metas } = place_chunks(alloc, encoding, chunks)?;
+    let WrittenChunks { files, metas } = place_chunks(alloc, encoding, chunks)?;
     let Indexed { index, tombstones } = write_rows(alloc, labels, metas, &hidden)?;
     // for the proof: the counts did not saturate
     few_chunks();

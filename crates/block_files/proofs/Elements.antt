@@ -29,7 +29,7 @@ if_none_then (Some y) p f = tt
 regrouped : (a b c d : List ℕ) → ((a ++ b) ++ c) ++ d ≡ a ++ (b ++ (c ++ d))
 regrouped a b c d = append_assoc (a ++ b) c d ∙ append_assoc a b (c ++ d)
 
--- the bytes of a chunk behind its length
+-- the bytes of a chunk after its length
 pub record Behind (enc : Encoding) (behind body : Text) : Type 0 where
   pub rest : Text
   pub whole : behind ≡ (encoding_byte enc ∷ body) ++ (sum_text (encoding_byte enc ∷ body) ++ rest)
@@ -144,7 +144,7 @@ none_at files reference offset file bytes found o b none e body h =
 pub no_file : (files : List Text) (reference : ℕ) → slice_get files (reference / 2 ^ 32) ≡ None → (e : Encoding) (body : Text) → StandsAt e files reference body → ⊥
 no_file files reference none e body h = let both : None ≡ Some h.file = sym none ∙ h.is_file in absurd cc
 
--- at a reference stands one chunk at most
+-- at a reference is one chunk at most
 pub one_stands : (files : List Text) (reference : ℕ) (d e : Encoding) (a b : Text) → StandsAt d files reference a → StandsAt e files reference b → (d ≡ e) × (a ≡ b)
 one_stands files reference d e a b p q =
     let found : Some p.file ≡ Some q.file = sym p.is_file ∙ q.is_file in

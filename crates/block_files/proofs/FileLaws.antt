@@ -7,7 +7,7 @@ use Rattle.hw_bytes.specs.Sums.{Text, sum_text}
 use Rattle.block_files.specs.declared.encoding.Encoding.{Encoding}
 use Rattle.block_files.specs.Files.{chunk_element, encoding_byte, file_head, with_chunk, with_last, last_length, last_reference}
 
--- behind the last file, where it has room, and else in a file of its own
+-- after the last file, where it has room, and else in a file of its own
 pub goes_behind : (enc : Encoding) (limit : ℕ) (full : List Text) (last body : Text) → leb (length last + length (chunk_element enc body)) limit ≡ true → with_chunk enc limit (full ++ last ∷ []) body ≡ full ++ (last ++ chunk_element enc body) ∷ []
 unfolding with_chunk
 goes_behind enc limit [] last body h = rw h refl
@@ -24,7 +24,7 @@ pub begins_first : (enc : Encoding) (limit : ℕ) (body : Text) → with_chunk e
 unfolding with_chunk
 begins_first enc limit body = refl
 
--- the last file, with a chunk behind some of its bytes
+-- the last file, with a chunk after some of its bytes
 some_last : (full : List Text) (front body : Text) → 0 < length body → with_last full (front ++ body) ≡ full ++ (front ++ body) ∷ []
 some_last full [] [] h = absurd (omega arith)
 some_last full [] (b ∷ body) h = refl
@@ -36,7 +36,7 @@ some_element enc body = omega (arith, length-append (uvarint (length body) ++ en
 with_last-put : (enc : Encoding) (full : List Text) (front body : Text) → with_last full (front ++ chunk_element enc body) ≡ full ++ (front ++ chunk_element enc body) ∷ []
 with_last-put enc full front body = some_last full front (chunk_element enc body) (some_element enc body)
 
--- where the next chunk goes: behind so many bytes of the last file, after the full ones
+-- where the next chunk goes: after so many bytes of the last file, after the full ones
 pub stays : (enc : Encoding) (limit : ℕ) (full : List Text) (last body : Text) → 0 < length last → length last + length (chunk_element enc body) ≤ limit → with_chunk enc limit (with_last full last) body ≡ with_last full (last ++ chunk_element enc body)
 stays enc limit full [] body some room = absurd (omega (arith, some))
 stays enc limit full (b ∷ last) body some room = goes_behind enc limit full (b ∷ last) body (le-leb (length (b ∷ last) + length (chunk_element enc body)) limit room)

@@ -57,7 +57,7 @@ meta_joined m numbers e =
     ap (λ (t : List ℕ). (((codes "{\n\t\"ulid\": \"" ++ m.ulid) ++ t) ++ m.ulid) ++ codes "\"\n\t\t]\n\t},\n\t\"version\": 1\n}\n") e
     ∙ sym (parted (codes "{\n\t\"ulid\": \"") m.ulid (middle m) (codes "\"\n\t\t]\n\t},\n\t\"version\": 1\n}\n")) ∙ sym (meta_parts m)
 
--- five pieces, one behind the other
+-- five pieces, one after the other
 pub five_joined : (v0 v1 v2 v3 v4 v5 a b c d e : List ℕ) → v0 ≡ [] → v1 ≡ v0 ++ a → v2 ≡ v1 ++ b → v3 ≡ v2 ++ c → v4 ≡ v3 ++ d → v5 ≡ v4 ++ e → v5 ≡ (((a ++ b) ++ c) ++ d) ++ e
 five_joined v0 v1 v2 v3 v4 v5 a b c d e e0 e1 e2 e3 e4 e5 = rw (e5, e4, e3, e2, e1, e0) refl
 

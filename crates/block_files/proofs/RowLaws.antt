@@ -13,7 +13,7 @@ use Rattle.block_files.specs.declared.encoding.Encoding.{Encoding}
 use Rattle.block_files.specs.Files.{Written, chunk_element, chunk_files, last_reference, longest_chunk, reference_behind, references, row_references, row_texts, texts, with_chunk}
 use Rattle.block_files.proofs.FileLaws.{goes_behind, begins_another}
 
--- the references of some chunks behind these files
+-- the references of some chunks after these files
 abbrev pub found_behind : Encoding → ℕ → List Text → List Text → List ℕ
 found_behind enc limit files bodies = along (λ others body. last_reference enc (fold (with_chunk enc limit) files (others ++ body ∷ [])) body ∷ []) bodies
 
@@ -49,7 +49,7 @@ short_at [] i d lt h = absurd (omega (arith, lt))
 short_at (c ∷ row) zero d lt h = All-head (λ body. length body ≤ longest_chunk) c.text (row_texts row) h
 short_at (c ∷ row) (suc i) d lt h = short_at row i d (omega (arith, lt)) (All-tail (λ body. length body ≤ longest_chunk) c.text (row_texts row) h)
 
--- ---- behind the rows before
+-- ---- after the rows before
 
 abbrev pub flat : List (List Text) → List Text
 flat rows = flat_map (λ r. r) rows

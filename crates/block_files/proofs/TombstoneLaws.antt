@@ -44,7 +44,7 @@ left_more rest more all found now t some push next h = by h.others h.is h.fit h.
           text = n.1;
         }
 
--- no entry is left behind the last byte
+-- no entry is left after the last byte
 pub left_none : (rest : List ℕ) (all found : List Tombstone) → length rest ≡ 0 → AreLeft rest all found → found ≡ all
 left_none rest all found none h = by h.others h.is h.fit h.text
   where

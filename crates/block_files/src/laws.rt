@@ -13,6 +13,6 @@ pub fn chunks_stand()
 {}
 
 /// At most one chunk is found at a reference.
-pub fn one_chunk()
+pub fn one_chunk_at_reference()
     ensures { (files : List Text) (reference : ℕ) (d e : Encoding) (a b : Text) → StandsAt d files reference a → StandsAt e files reference b → (d ≡ e) × (a ≡ b) }
 {}

@@ -19,7 +19,7 @@ use Rattle.block_read.proofs.Columns.{AreXorShort, chunks_short}
 use Rattle.block_read.proofs.Described.{chunks_counted, parts_of}
 use Rattle.block_read.proofs.Named.{index_count}
 
--- the first chunk is behind the header of its file
+-- the first chunk is after the header of its file
 behind_head : (e : Encoding) (body : Text) → reference_behind e file_limit [] body ≡ 8
 unfolding reference_behind with_chunk
 behind_head e body = omega (arith, length-append file_head (chunk_element e body))

@@ -15,7 +15,7 @@ use block_index::ChunkMeta;
 use head_column::{CHUNK_SAMPLES, Chunk, Sample, decode_chunk};
 use hw_bytes::Items;
 use std::alloc::Global;
-use xor_chunk::{decode_exact, one_chunk};
+use xor_chunk::{decode_exact, one_xor_chunk};
 
 // A chunk with its samples.
 #[derive(Debug, Drop)]
@@ -86,7 +86,7 @@ fn decode_xor(alloc: Global, data: &[u8]) -> Result<Vec<Sample>, PartFault>
 {
     let samples = decode_exact(alloc, data)?;
     // for the proof: a chunk stands for one list of samples
-    one_chunk();
+    one_xor_chunk();
     if !is_chunk(&samples) {
         return Err(PartFault::Bad);
     }

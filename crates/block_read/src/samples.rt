@@ -62,7 +62,7 @@ fn are_same(files: &[Items<u8>], others: &[Items<u8>]) -> bool
 }
 
 // Reads the samples of an index row, and appends their chunks to `again`, which gives the references that they must have.
-fn take_row(
+fn read_checked_row(
     alloc: Global,
     files: &[Items<u8>],
     again: &mut ChunkFiles,
@@ -111,7 +111,7 @@ pub(crate) fn read_samples(
     let mut again = ChunkFiles::new(alloc, encoding, CHUNK_FILE_LIMIT);
     let mut samples = Vec::new(alloc);
     for row in rows {
-        let read = take_row(alloc, files, &mut again, row.chunks.as_slice(), encoding)?;
+        let read = read_checked_row(alloc, files, &mut again, row.chunks.as_slice(), encoding)?;
         samples.push(Items::from_vec(read))?;
     }
     let written = again.into_files()?;

@@ -1,4 +1,4 @@
--- What stands in a list of files, and what is found in its directories.
+-- What is in a list of files, and what is found in its directories.
 use Rattle.std.specs.Prelude.{◌≡◌, ◌≢◌, ◌↔◌, ℕ, Bool, true, false, cond, not, ◌||◌, ◌⊎◌, List, [], ◌∷◌, ◌++◌, Option, None, Some, Contains, IsTrue, if◌then◌else◌, bytes_eq, is_some, map, string_bytes, refl}
 use Rattle.std.specs.List.{IsDistinct, find, list_any}
 use Rattle.std.specs.Option.{option_map}
@@ -25,7 +25,7 @@ abbrev pub has : List FileAt → List ℕ → Bool
 has [] path = false
 has (file ∷ files) path = is_at path file || has files path
 
--- where none is, nothing stands
+-- where none is, nothing is
 pub none_stands : (files : List FileAt) (path : List ℕ) → has files path ≡ false → standing_in files path ≡ None
 none_stands [] path none = refl
 none_stands (file ∷ files) path none = by (is_at path file) none (none_stands files path) where
@@ -33,7 +33,7 @@ none_stands (file ∷ files) path none = by (is_at path file) none (none_stands 
   by true none rest = absurd (true≢false none)
   by false none rest = rest none
 
--- where nothing stands, none is
+-- where nothing is, none is
 pub none_has : (files : List FileAt) (path : List ℕ) → standing_in files path ≡ None → has files path ≡ false
 none_has [] path none = refl
 none_has (file ∷ files) path none = by (is_at path file) none (none_has files path) where
@@ -84,7 +84,7 @@ is_or true b is = refl
 is_or false b (inl is) = absurd (false≢true is)
 is_or false b (inr is) = is
 
--- something stands at the path just if it is listed
+-- something is at the path just if it is listed
 pub stands : (files : List FileAt) (path : List ℕ) → (standing_in files path ≢ None) ↔ (has files path ≡ true)
 stands files path = (there (has files path) refl, λ is none. true≢false (sym is ∙ none_has files path none)) where
   there : (b : Bool) → has files path ≡ b → standing_in files path ≢ None → has files path ≡ true
@@ -182,6 +182,6 @@ next_listed files i file start names path lt is at are =
     ap (λ (p : List ℕ). map file_of (take i files) ++ record { path = p; bytes = file.bytes.items } ∷ []) at ∙ ap (λ (f : Listed). map file_of (take i files) ++ file_of f ∷ []) is in
     subst (λ (fs : List FileAt). AreNamesAt fs start names) (one ∙ sym (map_more file_of files i file lt)) are
 
--- the names behind a directory and its slash are those in it
+-- the names after a directory and its slash are those in it
 pub names_at : (files : List FileAt) (dir : List ℕ) (names : List (List ℕ)) → AreNamesAt files (with_separator dir) names → AreNamesIn (standing_in files) dir names
 names_at files dir names are = record { once = are.once; all = λ name is. subst (λ path. Contains names name ↔ (standing_in files path ≢ None)) (sym (joined dir name is)) (are.all name is) }

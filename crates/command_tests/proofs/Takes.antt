@@ -33,7 +33,7 @@ created_agrees disk files path agrees other none =
     let both = both_none (has files other) (bytes_eq path other) (sym (has_more files (record { path = path; bytes = [] }) other) ∙ none) in
     led_none (bytes_eq path other) (Some (New path)) (disk.names path) (disk.names other) (λ is. absurd (true≢false (sym is ∙ both.1))) (λ _. agrees other both.0)
 
--- so it is behind each call but a rename
+-- so it is after each call but a rename
 agrees_after : (disk : Disk) (files : List FileAt) (call : Call) → ((from to : List ℕ) → call ≡ Rename from to → ⊥) → Agrees disk files → Agrees (after disk call) (relisted files call)
 agrees_after disk files (Create path) other agrees = created_agrees disk files path agrees
 agrees_after disk files (CreateDir path) other agrees = created_agrees disk files path agrees
@@ -45,7 +45,7 @@ agrees_after disk files (Remove path) other agrees = λ at none.
     led_none (bytes_eq path at) None (disk.names path) (disk.names at) (λ _. refl)
     (λ apart. agrees at (sym (has_without path at files (λ same. false≢true (sym apart ∙ (bytes_eq-Decides path at).1 same))) ∙ none))
 
--- behind a rename nothing is created
+-- after a rename nothing is created
 none_created : (disk : Disk) (files later : List FileAt) (calls : List Call) (is : Bool) → Relists files true calls later is → CanTakeAll disk calls
 none_created disk files later [] is lists = tt
 none_created disk files later (Create path ∷ calls) is lists = absurd (true≢false lists.0.1)
@@ -66,7 +66,7 @@ takes disk files later (SyncDir dir ∷ calls) is agrees lists = (tt, takes (aft
 takes disk files later (Rename from to ∷ calls) is agrees lists = (tt, none_created (after disk (Rename from to)) (relisted files (Rename from to)) later calls is lists.1)
 takes disk files later (Remove path ∷ calls) is agrees lists = (tt, takes (after disk (Remove path)) (relisted files (Remove path)) later calls is (agrees_after disk files (Remove path) (λ _ _ same. cc) agrees) lists.1)
 
--- the disk on which just these files stand can take the calls
+-- the disk on which just these files are can take the calls
 pub can_take : (files later : List FileAt) (calls : List Call) (is : Bool) → Relists files false calls later is → CanTakeAll (disk_of (standing_in files)) calls
 can_take files later calls is lists = takes (disk_of (standing_in files)) files later calls is (λ path none. ap (option_map (λ _. Old path)) (none_stands files path none)) lists
 

@@ -1,4 +1,4 @@
--- Files and directories in a list: what stands there, and what calls make of it.
+-- Files and directories in a list: what is there, and what calls make of it.
 use Rattle.std.specs.Prelude.{◌≡◌, ◌≢◌, ◌↔◌, ℕ, Bool, true, false, not, ◌&&◌, ◌==◌, List, [], ◌∷◌, ◌++◌, Option, None, Some, Contains, if◌then◌else◌, bytes_eq, drop, filter, length, map, string_bytes, take}
 use Rattle.std.specs.List.{IsDistinct, find}
 use Rattle.std.specs.Option.{option_map}
@@ -23,13 +23,13 @@ file_of listed = record { path = string_bytes listed.path; bytes = listed.bytes.
 abbrev pub is_at : List ℕ → FileAt → Bool
 is_at path file = bytes_eq file.path path
 
--- What stands where these are listed: at each path the bytes of the first one of this path. A directory has none.
+-- What is there where these are listed: at each path the bytes of the first one of this path. A directory has none.
 abbrev pub standing_in : List FileAt → Standing
 standing_in files path = option_map (λ (file : FileAt). file.bytes) (find (is_at path) files)
 
 -- ---- what is found of it
 
--- Where this stands, these names are in a directory, and these bytes in a file.
+-- Where this is, these names are in a directory, and these bytes in a file.
 abbrev pub HoldsAt : Standing → List ℕ → Found → Type 0
 HoldsAt standing path (Names names) = AreNamesIn standing path names
 HoldsAt standing path (Bytes bytes) = standing path ≡ Some bytes
@@ -41,7 +41,7 @@ pub record AreNamesAt (files : List FileAt) (front : List ℕ) (names : List (Li
 
 -- ---- what calls make of it
 
--- the file, with these bytes behind its own if it has this path
+-- the file, with these bytes after its own if it has this path
 abbrev pub longer : List ℕ → List ℕ → FileAt → FileAt
 longer path bytes file = if is_at path file then record { path = file.path; bytes = file.bytes ++ bytes } else file
 
@@ -61,7 +61,7 @@ renamed from to path = if bytes_eq (take (length from) path) from && is_below (d
 abbrev pub renamed_file : List ℕ → List ℕ → FileAt → FileAt
 renamed_file from to file = record { path = renamed from to file.path; bytes = file.bytes }
 
--- the files behind a call
+-- the files after a call
 abbrev pub relisted : List FileAt → Call → List FileAt
 relisted files (Create path) = files ++ record { path = path; bytes = [] } ∷ []
 relisted files (CreateDir path) = files ++ record { path = path; bytes = [] } ∷ []

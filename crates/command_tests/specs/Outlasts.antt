@@ -36,11 +36,11 @@ use Rattle.unpack_command.specs.Rescues.{RescueEnding}
 use Rattle.log_directory.specs.Unpacked.{IsUnpackedLogIn}
 use Rattle.command_tests.specs.Listings.{HoldsAt, Relists, standing_in}
 
--- P of what a crash may leave behind these calls, where this stood before, and of what its paths lead to
+-- P of what a crash may leave after these calls, where this stood before, and of what its paths lead to
 abbrev pub CrashLeaves : Standing → (Standing → (List ℕ → Option File) → Standing → Type 0) → List Call → Type 0
 CrashLeaves before P calls = (left : Standing) (leads : List ℕ → Option File) → MayLeave (after_all (disk_of before) calls) leads left → P before leads left
 
--- The calls made of these files those behind them. A crash at any moment of the calls leaves `Either`, and a crash behind them `New` if all
+-- The calls made of these files those after them. A crash at any moment of the calls leaves `Either`, and a crash after them `New` if all
 -- went well.
 pub record Outlasts (files : List FileAt) (calls : List Call) (later : List FileAt) (Either New : Standing → (List ℕ → Option File) → Standing → Type 0) (WentWell : Type 0) : Type 0 where
   pub is_renamed : Bool
@@ -54,7 +54,7 @@ MakesNone files calls later = (calls ≡ []) × (later ≡ files)
 
 -- ---- of `append`
 
--- No call was made, since the run failed before or the file has no rows. Or a log stands in the directory, and whenever a crash comes, a
+-- No call was made, since the run failed before or the file has no rows. Or a log is in the directory, and whenever a crash comes, a
 -- replay gives its head, or that head with the rows of the file; and if all went well, with the rows.
 abbrev pub AppendOutlasts : AppendRequest → List FileAt → List Call → List FileAt → Type 0 → Type 0
 AppendOutlasts request files calls later WentWell =
@@ -67,11 +67,11 @@ AppendOutlasts request files calls later WentWell =
 
 -- ---- of `checkpoint`
 
--- what a replay gives stays, if in the unfinished folder of the checkpoint nothing stood but where the folder did
+-- what a replay gives stays, if in the unfinished folder of the checkpoint nothing was but where the folder did
 abbrev pub StaysAlike : CheckpointRequest → Files → ℕ → Standing → (List ℕ → Option File) → Standing → Type 0
 StaysAlike request log number before leads left = IsTreeIn before (unfinished_of (checkpoint_path request.dir.now number)) → ReplaysAlike request.dir.now request.min_valid log leads left
 
--- No call was made, since the run failed before. Or a log stands in the directory and no checkpoint of its last number, and whenever a crash
+-- No call was made, since the run failed before. Or a log is in the directory and no checkpoint of its last number, and whenever a crash
 -- comes, a replay gives what it gave before.
 abbrev pub CheckpointOutlasts : CheckpointRequest → List FileAt → List Call → List FileAt → Type 0 → Type 0
 CheckpointOutlasts request files calls later WentWell =
@@ -83,8 +83,8 @@ CheckpointOutlasts request files calls later WentWell =
 
 -- ---- of `cut`
 
--- No call was made, since the run failed before. Or a log stands in the directory and nothing has the block's name, and whenever a crash comes,
--- at the block's path stands what stood there, or the folder of the block of this log; and if all went well, the folder.
+-- No call was made, since the run failed before. Or a log is in the directory and nothing has the block's name, and whenever a crash comes,
+-- at the block's path is what was there, or the folder of the block of this log; and if all went well, the folder.
 abbrev pub CutOutlasts : CutRequest → List FileAt → List Call → List FileAt → Type 0 → Type 0
 CutOutlasts request files calls later WentWell =
     (MakesNone files calls later × (WentWell → ⊥))
@@ -94,16 +94,16 @@ CutOutlasts request files calls later WentWell =
 
 -- ---- of `unpack`
 
--- the names in directories where these files stand, and the bytes that stand at a moment of calls from there on
+-- the names in directories where these files are, and the bytes that are there at a moment of calls from there on
 abbrev pub seen_from : List FileAt → View
 seen_from files = record {
   names = AreNamesIn (standing_in files);
   bytes = λ dir name bytes. (made : List Call) × (between : List FileAt) × (is_renamed : Bool) × Relists files false made between is_renamed × (standing_in between (path_join dir name) ≡ Some bytes);
 }
 
--- No call was made, since the run failed before, or since the log is damaged, and then the damage that is told is its own. Or the log in the
--- directory was unpacked up to the damage that is told, and whenever a crash comes, at the new path stands what stood there, or a folder with
--- what was unpacked; and if all went well, the folder. Or it was given up, and whenever a crash comes, at the new path stands what stood there.
+-- No call was made, since the run failed before, or since the log is damaged, and then the damage that is reported is its own. Or the log in the
+-- directory was unpacked up to the damage that is reported, and whenever a crash comes, at the new path is what was there, or a folder with
+-- what was unpacked; and if all went well, the folder. Or it was given up, and whenever a crash comes, at the new path is what was there.
 abbrev pub UnpackOutlasts : UnpackRequest → List FileAt → List Call → List FileAt → Ending → Type 0
 UnpackOutlasts request files calls later end =
     (MakesNone files calls later × (end.well → ⊥)
@@ -116,9 +116,9 @@ UnpackOutlasts request files calls later end =
 
 -- ---- of `unpack --past-damage`
 
--- No call was made, since the run failed before. Or all that can be read of the log in the directory was written, with what is told to be lost,
--- and whenever a crash comes, at the new path stands what stood there, or a folder with what was written; and if all went well, the folder. Or
--- it was given up, and whenever a crash comes, at the new path stands what stood there.
+-- No call was made, since the run failed before. Or all that can be read of the log in the directory was written, with what is reported to be lost,
+-- and whenever a crash comes, at the new path is what was there, or a folder with what was written; and if all went well, the folder. Or
+-- it was given up, and whenever a crash comes, at the new path is what was there.
 abbrev pub RescueOutlasts : UnpackRequest → List FileAt → List Call → List FileAt → RescueEnding → Type 0
 RescueOutlasts request files calls later end =
     (MakesNone files calls later × (end.told → ⊥) × (end.well → ⊥))

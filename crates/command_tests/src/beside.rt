@@ -130,7 +130,7 @@ fn checkpoint_beside_append(rt: HostRuntime) -> Result<(), StoreFault> {
 
 const LATER: &[Act] = &[Act::Put("log/00000002", SAMPLE_1_AT_1030)];
 
-// Another run takes the next segment, behind the claim, and then a call of this one fails, the look at the log and the renaming among them: the
+// Another run takes the next segment, after the claim, and then a call of this one fails, the look at the log and the renaming among them: the
 // claim stays, as an empty segment. Without it the log would have a gap.
 #[test]
 fn later_segment_beside_append(rt: HostRuntime) -> Result<(), StoreFault> {
@@ -167,7 +167,7 @@ const LAST_CLAIMED: Case = Case {
     ..CHECKPOINT
 };
 
-// A segment behind which another one stands is a claim.
+// A segment after which there is another one is a claim.
 const EARLIER_CLAIMED: Case = Case {
     standing: &[
         ("log/", b""),

@@ -23,7 +23,7 @@ pub fn same<C: Debug + Drop, T: PartialEq + Debug + Drop>(
     assert_eq!(rt; found, wanted, "at {case:?}");
 }
 
-/// The names in a directory, each behind a space.
+/// The names in a directory, each after a space.
 pub fn names<S: Store>(alloc: Global, store: &S, dir: &str) -> Result<String, StoreFault> {
     let mut text = String::new(alloc);
     for name in store.read_dir(dir)? {
@@ -38,7 +38,7 @@ pub fn has_name<S: Store>(store: &S, dir: &str, wanted: &str) -> Result<bool, St
     Ok(found.iter().any(|name| name.as_str() == wanted))
 }
 
-/// Ends the test unless just these names are in a directory, each behind a space, in the order in which they were made.
+/// Ends the test unless just these names are in a directory, each after a space, in the order in which they were made.
 pub fn assert_names<R: Abort + AllocGlobal>(
     rt: &R,
     shelf: &Shelf,

@@ -1,4 +1,4 @@
-//! What stands after a crash at each call of `append`, `cut`, `checkpoint` and `unpack`.
+//! What there is after a crash at each call of `append`, `cut`, `checkpoint` and `unpack`.
 
 use crate::checks::{ULID, assert_names, has_name, same};
 use crate::fragments::*;
@@ -34,7 +34,7 @@ const WAYS: &[(Kept, Kept)] = &[
 // A crash: the first call that is not made, and what is kept.
 type Crash = (u64, (Kept, Kept));
 
-// What stands where a run crashed, and whether it had ended well before.
+// What there is where a run crashed, and whether it had ended well before.
 fn crashed<R: Threads + Wait + Sync + AllocGlobal>(
     rt: &R,
     case: &Case,
@@ -191,7 +191,7 @@ fn counts_of_three(alloc: Global, expired: u64) -> Result<String, AllocError> {
     )
 }
 
-// The log stands, alone or with the whole checkpoint, which is there where the run had ended well. It is replayed to the same.
+// The log is there, alone or with the whole checkpoint, which is there where the run had ended well. It is replayed to the same.
 fn assert_checkpoint<R: Abort + Threads + Wait + Sync + AllocGlobal>(
     rt: &R,
     crash: Crash,

@@ -6,7 +6,7 @@ use log_directory::min_valid_of;
 use std::alloc::Global;
 use store::StoreFault;
 
-// What stands in the data directory: directories, whose paths end in `/`, and files with their bytes.
+// What is in the data directory: directories, whose paths end in `/`, and files with their bytes.
 const STANDING: &[(&str, &[u8])] = &[
     ("data/", b""),
     ("data/01ARZ3NDEKTSV4RRFFQ69G5FAV/", b""),
@@ -42,7 +42,7 @@ fn least_where(
     }
 }
 
-// Nothing is read behind a read that failed.
+// Nothing is read after a read that failed.
 #[test]
 fn each_read_of_blocks_fails(rt: HostRuntime) -> Result<(), StoreFault> {
     for (call, least, said) in [

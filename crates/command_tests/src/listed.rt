@@ -57,7 +57,7 @@ pub fn with_new(
     Ok(made)
 }
 
-// Returns a copy of a file, with these bytes behind its own if it has this path.
+// Returns a copy of a file, with these bytes after its own if it has this path.
 fn longer_of(alloc: Global, file: &Listed, path: &str, bytes: &[u8]) -> Result<Listed, AllocError>
     ensures { IfOk result (λ made. file_of made ≡ longer path.now bytes.now (file_of file.now)) }
 {
@@ -68,7 +68,7 @@ fn longer_of(alloc: Global, file: &Listed, path: &str, bytes: &[u8]) -> Result<L
     Ok(copy)
 }
 
-/// Returns the files, with these bytes behind those of the file at this path.
+/// Returns the files, with these bytes after those of the file at this path.
 pub fn with_bytes(
     alloc: Global,
     files: &[Listed],
@@ -97,14 +97,14 @@ pub fn without(alloc: Global, files: &[Listed], path: &str) -> Result<Vec<Listed
     Ok(made)
 }
 
-// Returns these two texts, one behind the other.
+// Returns these two texts, one after the other.
 fn together(alloc: Global, front: &str, rest: &str) -> Result<String, AllocError>
     ensures { IfOk result (λ made. string_bytes made ≡ front.now ++ rest.now) }
 {
     format!(in alloc; "{front}{rest}")
 }
 
-// Returns what goes on behind this front of a text.
+// Returns what goes on after this front of a text.
 fn behind<'a>(text: &'a str, front: &str) -> Option<&'a str>
     ensures { MatchOption result ((rest : List ℕ) → text.now ≡ front.now ++ rest → ⊥) (λ rest. text.now ≡ front.now ++ rest.now) }
 {
@@ -121,7 +121,7 @@ fn goes_on(text: &str) -> bool
     }
 }
 
-// Returns what goes on behind this front of a path, if the path is the front or a path in it.
+// Returns what goes on after this front of a path, if the path is the front or a path in it.
 fn below<'a>(path: &'a str, front: &str) -> Option<&'a str>
     ensures { MatchOption result ((rest : List ℕ) → path.now ≡ front.now ++ rest → is_below rest ≡ true → ⊥) (λ rest. (path.now ≡ front.now ++ rest.now) × (is_below rest.now ≡ true)) }
 {
@@ -183,7 +183,7 @@ fn is_name(text: &str) -> bool
     !text.is_empty() && has_no_slash(text)
 }
 
-/// Returns the name that a path has in a directory, if it is one in it. `start` is the directory with a slash behind it.
+/// Returns the name that a path has in a directory, if it is one in it. `start` is the directory with a slash after it.
 pub fn name_in<'a>(start: &str, path: &'a str) -> Option<&'a str>
     ensures { MatchOption result ((name : List ℕ) → IsName name → path.now ≡ start.now ++ name → ⊥) (λ name. IsName name.now × (path.now ≡ start.now ++ name.now)) }
 {

@@ -71,7 +71,7 @@ fn can_rename(files: &[Listed], from: &str, to: &str) -> bool {
         && (is_free && found(files, from).is_some() || is_file(files, from) && is_file(files, to))
 }
 
-// Returns the directory with a slash behind it.
+// Returns the directory with a slash after it.
 fn start_of(alloc: Global, dir: &str) -> Result<String, AllocError>
     ensures { IfOk result (λ start. string_bytes start ≡ with_separator dir.now) }
 {
@@ -88,7 +88,7 @@ fn has_name(names: &[String], wanted: &str) -> bool
     names.iter().any(|name| name.as_str() == wanted)
 }
 
-// Adds a name behind the others.
+// Adds a name after the others.
 fn push_name(alloc: Global, names: &mut Vec<String>, name: &str) -> Result<(), AllocError>
     ensures { IsOk result → map string_bytes names.new.items ≡ map string_bytes names.old.items ++ name.now ∷ [] }
 {
@@ -112,7 +112,7 @@ fn add_name(
     }
 }
 
-// Returns the names in a directory, each once. `start` is the directory with a slash behind it.
+// Returns the names in a directory, each once. `start` is the directory with a slash after it.
 fn names_in(alloc: Global, files: &[Listed], start: &str) -> Result<Vec<String>, AllocError>
     ensures { IfOk result (λ names. AreNamesAt (map file_of files.now) start.now (map string_bytes names.items)) }
 {
@@ -123,7 +123,7 @@ fn names_in(alloc: Global, files: &[Listed], start: &str) -> Result<Vec<String>,
     Ok(names)
 }
 
-// Notes a call, and puts the files behind it in the place of those before.
+// Notes a call, and puts the files after it in the place of those before.
 fn put(
     store: &mut Listing,
     call: NotedCall,

@@ -42,7 +42,7 @@ fn run<R: Threads + Wait + Sync + AllocGlobal>(rt: &R, case: &Case) -> Result<Ou
     }
 }
 
-// The paths of files, each behind a space.
+// The paths of files, each after a space.
 fn paths(alloc: Global, files: &[Listed]) -> Result<String, AllocError> {
     let mut text = String::new(alloc);
     for file in files {

@@ -7,7 +7,7 @@ use answers::{AnalyzeRequest, DumpRequest, Encoding, LogForm, Request};
 use block_commands::{BlockRequest, CutRequest};
 use command_line::Asked;
 use head_replay::{Gate, NoGate, Options};
-use log_commands::carry_out;
+use log_commands::carry_out_log_request;
 use progress::{Extent, Meter, Progress};
 use std::alloc::Global;
 use std::cell::{Cell, RefCell};
@@ -209,8 +209,8 @@ fn assert_replay<R: Abort + Threads + Wait + Sync + AllocGlobal, P: Progress + S
     progress: &P,
 ) -> Result<(), StoreFault> {
     let shelf = shelf_of(rt.alloc(), &SAMPLES)?;
-    let want = carry_out(rt, rt.alloc(), &shelf, &NoGate, REPLAY_BY_PAGES);
-    let found = carry_out(rt, rt.alloc(), &shelf, progress, REPLAY_BY_PAGES);
+    let want = carry_out_log_request(rt, rt.alloc(), &shelf, &NoGate, REPLAY_BY_PAGES);
+    let found = carry_out_log_request(rt, rt.alloc(), &shelf, progress, REPLAY_BY_PAGES);
     let (found, want) = (
         (found.status as u8, found.printed.as_str()),
         (want.status as u8, want.printed.as_str()),
@@ -322,7 +322,7 @@ const REPLAYS: &[Asked<'static>] = &[
     }),
 ];
 
-// Carries out what is asked for on a log with this segment behind its others, and ends the test unless it is heard.
+// Carries out what is asked for on a log with this segment after its others, and ends the test unless it is heard.
 fn assert_heard<R: Abort + Threads + Wait + Sync + AllocGlobal>(
     rt: &R,
     asked: Asked<'static>,

@@ -1,4 +1,4 @@
-//! Calls of a store, as they are noted. What says which calls these are stands in specs/, which has no words of tests alone.
+//! Calls of a store, as they are noted. What says which calls these are is in specs/, which has no words of tests alone.
 
 /// A call that was made.
 #[derive(Debug, Drop, PartialEq)]

@@ -1,4 +1,4 @@
-//! The commands that write, over a list of files: what stands before them and after them, and what a crash at any moment leaves.
+//! The commands that write, over a list of files: what is before them and after them, and what a crash at any moment leaves.
 
 ghost use Rattle.std.specs.Prelude.{◌≡◌, [], false, map, true};
 ghost use Rattle.unpack_command.specs.Folders.{ending_of};
@@ -78,7 +78,7 @@ pub fn make_checkpoint(alloc: Global, files: Vec<Listed>, request: CheckpointReq
     left_by(answer, store)
 }
 
-/// Cuts an hour of a log into a block. A crash at any moment leaves the whole block, or what stood there before.
+/// Cuts an hour of a log into a block. A crash at any moment leaves the whole block, or what was there before.
 pub fn cut<R: Threads + Wait + Sync>(
     rt: &R,
     alloc: Global,
@@ -93,7 +93,7 @@ pub fn cut<R: Threads + Wait + Sync>(
     left_by(answer, store)
 }
 
-/// Unpacks a log into a new directory. A crash at any moment leaves the whole directory, or what stood there before.
+/// Unpacks a log into a new directory. A crash at any moment leaves the whole directory, or what was there before.
 pub fn unpack(alloc: Global, files: Vec<Listed>, request: UnpackRequest<'_>) -> Outcome
     ensures up_to_damage { request.entry.past_damage ≡ false → UnpackOutlasts request.entry (map file_of files.items) (calls_of result.calls.items) (map file_of result.files.items) (ending_of request.entry.through_damage result.answer) }
     ensures past_damage { request.entry.past_damage ≡ true → RescueOutlasts request.entry (map file_of files.items) (calls_of result.calls.items) (map file_of result.files.items) (rescue_ending_of result.answer) }

@@ -8,7 +8,7 @@ use block_commands::{BlockRequest, CutRequest, carry_out_block};
 use command_line::Asked;
 use head_replay::Options;
 use inspect_command::carry_out_inspect;
-use log_commands::carry_out;
+use log_commands::carry_out_log_request;
 use progress::Progress;
 use query_commands::{carry_out_analyze, carry_out_dump};
 use rescue_commands::{carry_out_blocks, carry_out_rescue};
@@ -58,7 +58,7 @@ pub const OUT_OF_MEMORY: Left = (4, "", "out of memory");
 /// What is asked of a store, of which one call then fails.
 #[derive(Clone, Copy)]
 pub struct Case {
-    /// What stands there: directories, whose paths end in `/`, and files with their bytes.
+    /// What is there: directories, whose paths end in `/`, and files with their bytes.
     pub standing: &'static [(&'static str, &'static [u8])],
     pub asked: Asked<'static>,
     /// Of which directory the names are looked at afterwards.
@@ -99,7 +99,7 @@ pub fn carried_out<R: Threads + Wait + Sync + AllocGlobal, S: Store, P: Progress
 ) -> Answer {
     let alloc = rt.alloc();
     match asked {
-        Asked::OfLog(request) => carry_out(rt, alloc, store, progress, request),
+        Asked::OfLog(request) => carry_out_log_request(rt, alloc, store, progress, request),
         Asked::Inspect(request) => carry_out_inspect(alloc, store, request),
         Asked::Analyze(request) => carry_out_analyze(rt, alloc, store, progress, request),
         Asked::Dump(request) => carry_out_dump(rt, alloc, store, progress, request),

@@ -13,7 +13,7 @@ use store::{Store, StoreFault};
 struct Failure {
     call: u64,
     fault: StoreFault,
-    // Whether each call behind it fails too.
+    // Whether each call after it fails too.
     lasts: bool,
 }
 
@@ -144,7 +144,7 @@ impl Shelf {
         Ok(())
     }
 
-    /// Has the call of this number fail, and each behind it.
+    /// Has the call of this number fail, and each after it.
     pub fn stop(&mut self, call: u64) -> Result<(), StoreFault> {
         open(&self.contents)?.failure = Some(Failure {
             call,

@@ -44,7 +44,7 @@ impl Write for Few {
     }
 }
 
-// However few bytes it takes at a time, it gets all, behind those of the call before.
+// However few bytes it takes at a time, it gets all, after those of the call before.
 #[test]
 fn few_at_a_time(rt: HostRuntime) -> Result<(), StoreFault> {
     for most in [1, 2, 3, 4, 5, 100] {
@@ -57,7 +57,7 @@ fn few_at_a_time(rt: HostRuntime) -> Result<(), StoreFault> {
     Ok(())
 }
 
-// Where it is full before the end, that is told.
+// Where it is full before the end, that is reported.
 #[test]
 fn full_before_the_end(rt: HostRuntime) {
     for (most, room) in [(1, 0), (1, 3), (2, 3), (3, 3), (100, 3)] {

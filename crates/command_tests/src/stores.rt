@@ -183,7 +183,7 @@ fn make_files(
     Ok((paths, files))
 }
 
-// Several files are read side by side, and a large one in parts. Of those that cannot be read the first is told.
+// Several files are read side by side, and a large one in parts. Of those that cannot be read the first is reported.
 #[test]
 fn files_side_by_side(rt: HostRuntime) -> Result<(), Fail> {
     let alloc = rt.alloc();
@@ -274,7 +274,7 @@ const FAILING: &[(u64, ErrorKind, Result<&[u8], StoreFault>)] = &[
     (3, ErrorKind::Interrupted, Ok(b"abcd")),
 ];
 
-// Reads four bytes where a read fails, and a length is told.
+// Reads four bytes where a read fails, and a length is reported.
 fn assert_read<R: Abort + AllocGlobal>(
     rt: &R,
     (fails_at, kind, wanted): (u64, ErrorKind, Result<&[u8], StoreFault>),
@@ -303,7 +303,7 @@ fn failing_read(rt: HostRuntime) {
     }
 }
 
-// Read by more than one call, whatever length is told.
+// Read by more than one call, whatever length is reported.
 #[test]
 fn long_read(rt: HostRuntime) -> Result<(), StoreFault> {
     let bytes = bytes_of(rt.alloc(), 0, 200_000)?;
@@ -314,7 +314,7 @@ fn long_read(rt: HostRuntime) -> Result<(), StoreFault> {
     Ok(())
 }
 
-// Where the length that is told is more than can be had, memory is out.
+// Where the length that is reported is more than can be had, memory is out.
 #[test]
 fn length_past_memory(rt: HostRuntime) {
     let read = read_whole(rt.alloc(), &mut b"abcd".as_slice(), u64::MAX);

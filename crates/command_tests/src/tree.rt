@@ -85,7 +85,7 @@ pub struct Tree {
     // The first one is the current directory. None is taken away.
     nodes: Vec<Node>,
     seen: Vec<Link>,
-    // The names that were synced, and the changes behind them that were not.
+    // The names that were synced, and the changes after them that were not.
     synced: Vec<Link>,
     changes: Vec<Change>,
 }
@@ -197,7 +197,7 @@ impl Tree {
         self.add(path, Node::File(File { bytes, synced: 0 }))
     }
 
-    /// Writes bytes behind those of the file of this number.
+    /// Writes bytes after those of the file of this number.
     pub fn append(&mut self, file: usize, bytes: &[u8]) -> Result<(), StoreFault> {
         self.file(Some(file))?.bytes.extend_from_slice(bytes)?;
         Ok(())

@@ -205,7 +205,7 @@ only_one f (x ∷ xs) e =
     first f x xs rest zero u ne at = absurd (ne refl)
     first f x xs rest (suc j) u ne at = let few = le-sum_by-view f xs j u at in omega arith
 
--- each number below the word stands once in the list of just one view
+-- each number below the word is once in the list of just one view
 pub stands_in_one : (pieces word : ℕ) (views : List Known) → Tickets pieces word views → (x : ℕ) → x < word
     → (seat : ℕ) × (v : Known) × (get_elem? views seat ≡ some v) × (times x v.drawn ≡ 1) × ((j : ℕ) (u : Known) → j ≢ seat → get_elem? views j ≡ some u → times x u.drawn ≡ 0)
 stands_in_one pieces word views r x below =

@@ -1,4 +1,4 @@
-//! Drawing numbers, each once.
+//! ClaimRule numbers, each once.
 
 ghost use Rattle.std.specs.Prelude.{◌≡◌, ℕ, ◌+◌, ◌^◌, ◌<◌, ◌≤◌, ◌≢◌, List, [], ◌∷◌, ◌++◌, max, IfOk, IfSome, IfNone, None};
 ghost use Rattle.crew.specs.Tickets.{Closes, HasNoRepeat, IsAt, Tickets, pass_of, times};
@@ -18,9 +18,9 @@ pub struct Known {
 }
 
 // The rule of the one word, which says how many numbers were drawn.
-struct Drawing;
+struct ClaimRule;
 
-impl TableRule<(), Known, u64> for Drawing {
+impl TableRule<(), Known, u64> for ClaimRule {
     ghost use Rattle.crew.specs.Tickets.{Ruled, known};
 
     ghost holds = { λ pieces s. Ruled pieces s };
@@ -29,27 +29,27 @@ impl TableRule<(), Known, u64> for Drawing {
 }
 
 // The step of a claim: the word is as the pass last saw it and grows by one, or it is greater and stays.
-struct Claiming;
+struct ClaimStep;
 
-impl Play<(), Known> for Claiming {
+impl Play<(), Known> for ClaimStep {
     ghost use Rattle.crew.specs.Tickets.{Draws};
 
     ghost then = { λ step me found after. Draws step me found after };
 }
 
 // The step of a look at the word, which changes nothing.
-struct Looking;
+struct LookStep;
 
-impl Play<(), Known> for Looking {
+impl Play<(), Known> for LookStep {
     ghost use Rattle.crew.specs.Tickets.{Looks};
 
     ghost then = { λ step me found after. Looks step me found after };
 }
 
 // The split of a pass into itself and a new one that drew nothing.
-struct Fresh;
+struct PassSplit;
 
-impl Split<Known> for Fresh {
+impl Split<Known> for PassSplit {
     ghost use Rattle.crew.specs.Tickets.{fresh};
 
     ghost left = { λ v. v };
@@ -58,9 +58,9 @@ impl Split<Known> for Fresh {
 }
 
 // The join of two passes to one.
-struct Both;
+struct PassJoin;
 
-impl Join<Known> for Both {
+impl Join<Known> for PassJoin {
     ghost use Rattle.crew.specs.Tickets.{joined, spent};
 
     ghost both = { λ v w. joined v w };
@@ -72,7 +72,7 @@ impl Join<Known> for Both {
 /// with the claims that it came from.
 pub struct Claims {
     pieces: u64,
-    table: Table<(), Known, u64, Drawing, Global>,
+    table: Table<(), Known, u64, ClaimRule, Global>,
 }
 
 // Written out, so that a function that drops one has a call in its proof, and not a copy of this body.
@@ -132,7 +132,7 @@ impl Claims {
         ensures made { result.1 ≡ pass_of self.now pass.seen [] }
     {
         let Pass { seen, mut seat } = pass;
-        let other = self.table.shared.split_seat::<Fresh>(&mut seat);
+        let other = self.table.shared.split_seat::<PassSplit>(&mut seat);
         (Pass { seen, seat }, Pass { seen, seat: other })
     }
 
@@ -150,7 +150,7 @@ impl Claims {
             let found = self
                 .table
                 .shared
-                .compare_exchange::<Claiming>(&mut pass.seat, 0, next, next + 1);
+                .compare_exchange::<ClaimStep>(&mut pass.seat, 0, next, next + 1);
             if found == next {
                 pass.seen = next + 1;
                 return Some(next);
@@ -172,9 +172,11 @@ impl Claims {
             seen: other_seen,
             seat: other_seat,
         } = other;
-        self.table.shared.join_seat::<Both>(&mut seat, other_seat);
+        self.table
+            .shared
+            .join_seat::<PassJoin>(&mut seat, other_seat);
         // for the proof: after a look no number is there twice
-        self.table.shared.load::<Looking>(&mut seat, 0);
+        self.table.shared.load::<LookStep>(&mut seat, 0);
         Pass {
             seen: seen.max(other_seen),
             seat,

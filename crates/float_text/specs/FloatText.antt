@@ -47,7 +47,7 @@ Reads text bits = option_map (cast_signed w64) (float_bits text) ≡ Some bits
 abbrev pub IsGraphic : ℕ → Type 0
 IsGraphic c = (32 < c) × (c < 127)
 
--- the new text is the old one with a word behind it, of which `Spells` is true
+-- the new text is the old one with a word after it, of which `Spells` is true
 pub record AppendsWord (Spells : List ℕ → Type 0) (old new : List ℕ) : Type 0 where
   pub word : List ℕ
   pub appended : new ≡ old ++ word

@@ -77,7 +77,7 @@ pub(crate) fn block_with(alloc: Global, part: Part, bytes: &[u8]) -> Result<Bloc
     })
 }
 
-// A row's labels, its samples and its hidden runs, and behind it a semicolon.
+// A row's labels, its samples and its hidden runs, and after it a semicolon.
 fn push_row(text: &mut String, row: &BlockRow) -> Result<(), AllocError> {
     push_labels(text, &row.labels)?;
     for sample in row.samples.as_slice() {

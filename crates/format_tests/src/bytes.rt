@@ -42,7 +42,7 @@ fn checksum_vectors(rt: HostRuntime) {
     check(&rt, CHECKSUMS);
 }
 
-// The number, and behind it how many bytes it takes.
+// The number, and after it how many bytes it takes.
 const NUMBERS: &[(Reading, &str)] = &[
     (Reading::Two(b"\x01\x02"), "Some(258)"),
     (Reading::Two(b"\x01"), "None"),
@@ -88,7 +88,7 @@ fn text_spellings(rt: HostRuntime) {
     check(&rt, TEXTS);
 }
 
-// What is put behind bytes.
+// What is put after bytes.
 enum Put {
     Two(u16),
     Four(u32),

@@ -14,7 +14,7 @@ fn answer(alloc: Global, part: Part, bytes: &[u8]) -> Result<Answer, AllocError>
 }
 
 // What is done to a part, once for each of its bytes: the byte exclusive or these bits; the bytes from it on cut off; or another one, of
-// the values 0, 1 and so on, put behind the part.
+// the values 0, 1 and so on, put after the part.
 enum Change {
     Bits(u8),
     Cut,

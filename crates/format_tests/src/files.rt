@@ -89,7 +89,7 @@ fn add_row(alloc: Global, files: &mut ChunkFiles, row: &[Chunk]) -> Result<Items
     Ok(Items::from_vec(files.add_row(alloc, row)?))
 }
 
-// Puts the rows behind one another, one by one.
+// Puts the rows after one another, one by one.
 fn write_each(alloc: Global, limit: u32, rows: &[Items<Chunk>]) -> Result<Written, WriteFault> {
     let mut files = ChunkFiles::new(alloc, Encoding::Raw, limit);
     let mut references = Vec::new(alloc);

@@ -9,8 +9,8 @@ use block_index::{
 use std::alloc::{AllocError, Global};
 use wal_record::LabelSet;
 
-// Each text is hexadecimal digits, and was laid out by hand or by another program from what the format says. A checksum stands
-// behind two spaces.
+// Each text is hexadecimal digits, and was laid out by hand or by another program from what the format says. A checksum is
+// after two spaces.
 
 // The symbols a, b and job; job=a and job=b, the series 2 and 3, aligned to 16; the values of job; the postings of all, of job=a and of
 // job=b; the two tables of offsets; and the table of contents.
@@ -28,7 +28,7 @@ pub(crate) const THREE_SERIES: &str = "BAAAD700 02 \
     000000000000008C 0000000000000058 000000000000009E  35B02976";
 
 // The symbols are no text, 1, 10, 9, a, b, c, dd, q, x, y and z. The rows have the values 9, 10, 1 and 9 of c in this order; its label
-// index names them as 1, 10 and 9. The second row's second chunk stands before its first one, and the third row has all times.
+// index names them as 1, 10 and 9. The second row's second chunk is before its first one, and the third row has all times.
 const UNSORTED_VALUES: &str = "BAAAD700 02 \
     0000001D 0000000C 00 0131 023130 0139 0161 0162 0163 026464 0171 0178 0179 017A  631D734D 000000000000 \
     09 02 0409 0603 01 09 00 08  BA8198B8 0000 \
@@ -75,7 +75,7 @@ pub(crate) fn push_labels(text: &mut String, labels: &LabelSet) -> Result<(), Al
     Ok(())
 }
 
-// Rows, each as its labels and its chunks, and behind it a semicolon.
+// Rows, each as its labels and its chunks, and after it a semicolon.
 fn push_rows(text: &mut String, rows: &[IndexRow]) -> Result<(), AllocError> {
     for row in rows {
         push_labels(text, &row.labels)?;

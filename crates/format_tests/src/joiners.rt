@@ -7,7 +7,7 @@ use crate::pages::{
 use std::alloc::{AllocError, Global};
 use wal_page::*;
 
-// What `take` returns behind each page of a file, and then `finish`: the number of records, the fault, and the first record.
+// What `take` returns after each page of a file, and then `finish`: the number of records, the fault, and the first record.
 struct PageByPage(&'static [Stretch]);
 
 fn push_joined(text: &mut String, joined: &Joined<'_>) -> Result<(), AllocError> {

@@ -130,7 +130,7 @@ fn equality(rt: HostRuntime) {
     check(&rt, EQUALITY);
 }
 
-// Each set comes before all behind it, and is equal to itself alone.
+// Each set comes before all after it, and is equal to itself alone.
 const ASCENDING: [Pairs; 14] = [
     &[],
     &[(b"a", b"")],

@@ -211,7 +211,7 @@ fn descriptions_of_blocks(rt: HostRuntime) {
     check(&rt, METAS);
 }
 
-// A text whose checksum is put behind a byte; bytes, and how many of them are summed; and a number for four bytes.
+// A text whose checksum is put after a byte; bytes, and how many of them are summed; and a number for four bytes.
 enum Number {
     Put(&'static [u8]),
     Summed(&'static [u8], usize),

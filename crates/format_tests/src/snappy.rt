@@ -5,7 +5,7 @@ use hw_bytes::{crc32c, put_uvarint};
 use snappy_block::{SnappyFault, decode, decode_in};
 use std::alloc::{AllocError, Global};
 
-// A block. What it stands for is told by how many bytes these are and their checksum.
+// A block. What it stands for is given by how many bytes these are and their checksum.
 struct Decoded(&'static [u8]);
 
 fn text_of(alloc: Global, block: &[u8]) -> Result<String, AllocError> {
@@ -78,7 +78,7 @@ fn snappy_blocks(rt: HostRuntime) {
     check(&rt, BLOCKS);
 }
 
-// A long block: of so many bytes `a`, by copies from 1 byte back; or of so many bytes as they are, whose length is spelled behind this tag in
+// A long block: of so many bytes `a`, by copies from 1 byte back; or of so many bytes as they are, whose length is spelled after this tag in
 // so many bytes.
 enum Long {
     Copies(u32),
@@ -163,7 +163,7 @@ const REFUSED: &[(Decoded, &str)] = &[
     (Decoded(b"\x01"), "TooShort"),
     (Decoded(b"\xFF\xFF\xFF\xFF\x0F"), "TooShort"),
     (Decoded(b"\xFF\xFF\xFF\xFF\x0F\x0Cabcd"), "TooShort"),
-    // two faults, of which the first is told
+    // two faults, of which the first is reported
     (Decoded(b"\x07\x0Cabcd\xFE\x05\x00"), "BadOffset"),
     (Decoded(b"\x03\x0Cabc"), "CutOff"),
     (Decoded(b"\x03\x0Cabcd\x01\x09"), "TooLong"),
@@ -206,13 +206,13 @@ fn texts_of_snappy_faults(rt: HostRuntime) {
     check(&rt, TOLD);
 }
 
-// A block, once for each of its bytes, of which that byte and all behind it are cut off; or once for each bit, which is changed.
+// A block, once for each of its bytes, of which that byte and all after it are cut off; or once for each bit, which is changed.
 enum Changed {
     Cut(&'static [u8]),
     Bits(&'static [u8]),
 }
 
-// What blocks were decoded to: a letter for each; and the bytes that they stand for, one list after another, each with its length behind it.
+// What blocks were decoded to: a letter for each; and the bytes that they stand for, one list after another, each with its length after it.
 #[derive(Drop)]
 struct Answers {
     letters: String,

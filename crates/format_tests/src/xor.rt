@@ -252,7 +252,7 @@ const BYTES: &[&str] = &[
     "00 = TooShort TooShort",
     "0000 = 0 0",
     "0000 00 = 0 NotCanonical",
-    // one sample: no time, no value, a time of 11 bytes and one past 64 bits, a longer spelling, no empty byte behind it, and two
+    // one sample: no time, no value, a time of 11 bytes and one past 64 bits, a longer spelling, no empty byte after it, and two
     "0001 = BadNumber BadNumber",
     "0001 80 = BadNumber BadNumber",
     "0001 00 = TooShort TooShort",
@@ -264,7 +264,7 @@ const BYTES: &[&str] = &[
     "0001 00 0000000000000000 00 = 1 1",
     "0001 00 0000000000000000 0000 = 1 NotCanonical",
     "0001 00 0000000000000000 01 = 1 NotCanonical",
-    // two samples: no difference of times, one that is too long, no value, bits behind the last sample
+    // two samples: no difference of times, one that is too long, no value, bits after the last sample
     "0002 00 0000000000000000 = BadNumber BadNumber",
     "0002 00 0000000000000000 FF = BadNumber BadNumber",
     "0002 00 0000000000000000 01 = TooShort TooShort",
@@ -273,7 +273,7 @@ const BYTES: &[&str] = &[
     "0002 00 0000000000000000 01 01 = 2 NotCanonical",
     "0002 00 0000000000000000 01 00 00 = 2 NotCanonical",
     "0002 00 0000000000000000 8100 00 = 2 NotCanonical",
-    // more samples than there are, also where zeros behind the last one stand for some
+    // more samples than there are, also where zeros after the last one stand for some
     "0003 00 0000000000000000 01 00 = 3 3",
     "0005 00 0000000000000000 01 00 = 5 5",
     "0006 00 0000000000000000 01 00 = TooShort TooShort",

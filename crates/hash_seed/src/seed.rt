@@ -14,7 +14,7 @@ pub struct HashSeed {
     factor: u64,
 }
 
-// The seed that all know: the first 128 bits behind the point of pi, in base 2.
+// The seed that all know: the first 128 bits after the point of pi, in base 2.
 const KNOWN: HashSeed = HashSeed {
     start: 0x243f_6a88_85a3_08d3,
     factor: 0x1319_8a2e_0370_7344,

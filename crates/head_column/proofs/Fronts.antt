@@ -185,7 +185,7 @@ lists_before t (suc n) (l ∷ ls) back h b =
     ∙ ap (λ xs. l.items ++ xs) (lists_before t n ls back (rises_back l.items (flat ls ++ back) h') (before_rest t n l ls b))
     ∙ sym (append_assoc l.items (flat (take n ls)) (samples_before t (flat (drop n ls) ++ back)))
 
--- where a list is not over before the time, those behind it have all their samples from it on
+-- where a list is not over before the time, those after it have all their samples from it on
 pub one_cut_from : (t : ℤ) (xs ys : List Sample) → Rises (xs ++ ys) → 0 < length xs → last_is_before t xs ≡ false → samples_from t (xs ++ ys) ≡ samples_from t xs ++ ys
 one_cut_from t xs ys h some e = from_append t xs ys ∙ ap (λ zs. samples_from t xs ++ zs) (from_all t ys (all_from t xs ys h some e))
 
@@ -259,7 +259,7 @@ stretch_from_none t n ls rest back h b d e =
     ap (λ xs. samples_from t back ++ (flat xs ++ [])) none ∙ append_none (samples_from t back)
     ∙ sym (lists_from t n ls back h b ∙ ap (λ xs. samples_from t (flat xs ++ back)) (sym d ∙ none))
 
--- the samples before the time, behind some that are in no list
+-- the samples before the time, after some that are in no list
 pub stretch_before : (t : ℤ) (n : ℕ) (front : List Sample) (ls whole : List SampleList) (back : List Sample) (l : SampleList) (others : List SampleList)
     → Rises (flat ls ++ back) → AreBefore t n ls → whole ≡ take n ls → IsFirst t n ls back l others
     → samples_before t front ++ (flat whole ++ samples_before t l.items) ≡ samples_before t (front ++ (flat ls ++ back))

@@ -27,7 +27,7 @@ span_any-with_runs rs (r ∷ more) t a q =
     ∙ ap (λ b. b || span_any more t) (span_any-with_run rs r t a (All-head IsRun r more q))
     ∙ sym (or_assoc (span_any rs t) (spans r t) (span_any more t))
 
--- no run of those that stand apart is empty
+-- no run of those that are apart is empty
 are_runs : (rs : List Run) → AreApart rs → All IsRun rs
 are_runs [] a = All-nil IsRun
 are_runs (r ∷ rs) a = All-cons IsRun r rs a.0 (are_runs rs a.2)
@@ -36,7 +36,7 @@ are_runs (r ∷ rs) a = All-cons IsRun r rs a.0 (are_runs rs a.2)
 pub All-IsRun-permuted : (rs more all : List Run) → AreApart rs → All IsRun more → IsPermutation (rs ++ more) all → All IsRun all
 All-IsRun-permuted rs more all a q p = All-permutation IsRun (rs ++ more) all p (All-append IsRun rs more (are_runs rs a) q)
 
--- all runs, added in any order, make what more make of those that stand apart
+-- all runs, added in any order, make what more make of those that are apart
 pub with_runs-permuted : (rs more all : List Run) → AreApart rs → All IsRun more → IsPermutation (rs ++ more) all → with_runs [] all ≡ with_runs rs more
 with_runs-permuted rs more all a q p = one_runs (with_runs [] all) (with_runs rs more) (AreApart-with_runs [] all tt some) (AreApart-with_runs rs more a q) same where
   some : All IsRun all

@@ -91,7 +91,7 @@ same_rest q qs rs a b e t = by (spans q t) refl (e t) where
 run_equal : (q r : Run) → q.min_time ≡ r.min_time → q.max_time ≡ r.max_time → q ≡ r
 run_equal q r e f = ap (λ a. record { min_time = a; max_time = q.max_time }) e ∙ ap (λ b. record { min_time = r.min_time; max_time = b }) f
 
--- runs that stand apart and have the same times are the same
+-- runs that are apart and have the same times are the same
 pub one_runs : (qs rs : List Run) → AreApart qs → AreApart rs → ((t : ℤ) → span_any qs t ≡ span_any rs t) → qs ≡ rs
 one_runs [] [] a b e = refl
 one_runs [] (r ∷ rs) a b e = let h : false ≡ true = e r.min_time ∙ first_has r rs b in cc

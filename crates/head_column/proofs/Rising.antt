@@ -14,7 +14,7 @@ use Rattle.head_column.proofs.Bools.{or_false}
 not_reached : (t s : ℤ) → int_le t s ≡ false → s <ℤ t
 not_reached t s h = grind (arith, ints)
 
--- a sample that none has reached goes behind them
+-- a sample that none has reached goes after them
 pub Rises-push : (xs : List Sample) (s : Sample) → Rises xs → has_reached xs s.time ≡ false → Rises (xs ++ s ∷ [])
 Rises-push [] s r h = tt
 Rises-push (x ∷ []) s r h = (not_reached s.time x.time (or_parts (int_le s.time x.time) false h).0, tt)

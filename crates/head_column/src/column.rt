@@ -167,7 +167,7 @@ impl Column {
     }
 
     // Applies an item, as `apply` does.
-    fn take(&mut self, item: &Item) -> Result<Outcome, AllocError>
+    fn apply_item(&mut self, item: &Item) -> Result<Outcome, AllocError>
         ensures changed { OnOk result (self.new.history ≡ history_after self.old.history item.now) }
         ensures told { IfOk result (λ told. told ≡ history_outcome self.old.history item.now) }
         ensures refused { OnErr result (self.new.history ≡ self.old.history) }
@@ -229,6 +229,6 @@ impl Builder for Column {
         ensures room { 0 < self.old.spare → IsOk result }
         ensures spare { self.old.spare ≤ self.new.spare + 1 }
     {
-        self.take(item)
+        self.apply_item(item)
     }
 }

@@ -9,12 +9,12 @@ use crate::chunk::{CHUNK_SAMPLES, Chunk};
 use crate::encoding::{put_samples, time_of};
 use crate::hour::Hour;
 use crate::lists::SampleLists;
-use crate::stretch::Stretch;
+use crate::stretch::SampleSlice;
 use hw_bytes::{Items, put_be16};
 use std::alloc::{AllocError, Global};
 
-// Takes the first samples, which it encodes as a chunk.
-fn take_chunk(alloc: Global, rest: &mut Stretch<'_>, count: usize) -> Result<Chunk, AllocError>
+// Drops the first samples of `rest`, and returns them as a chunk.
+fn next_chunk(alloc: Global, rest: &mut SampleSlice<'_>, count: usize) -> Result<Chunk, AllocError>
     requires some { 0 < count }
     requires few { count ≤ chunk_samples }
     requires there { count ≤ length rest.old }
@@ -40,7 +40,7 @@ fn take_chunk(alloc: Global, rest: &mut Stretch<'_>, count: usize) -> Result<Chu
 }
 
 // Encodes all these samples in chunks.
-fn cut_all(alloc: Global, samples: Stretch<'_>) -> Result<Vec<Chunk>, AllocError>
+fn cut_all(alloc: Global, samples: SampleSlice<'_>) -> Result<Vec<Chunk>, AllocError>
     ensures chunks { IfOk result (λ chunks. chunks.items ≡ chunks_of samples.entry) }
     ensures none { samples.entry ≡ [] → IsOk result }
 {
@@ -48,7 +48,7 @@ fn cut_all(alloc: Global, samples: Stretch<'_>) -> Result<Vec<Chunk>, AllocError
     let mut rest = samples;
     let mut count = rest.count_to(CHUNK_SAMPLES);
     while count > 0 {
-        chunks.push(take_chunk(alloc, &mut rest, count)?)?;
+        chunks.push(next_chunk(alloc, &mut rest, count)?)?;
         count = rest.count_to(CHUNK_SAMPLES);
     }
     Ok(chunks)

@@ -33,3 +33,4 @@ pub use laws::{
     valid_items_suffice,
 };
 pub use tally::Tally;
+pub use times::reaches;

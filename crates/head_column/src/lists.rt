@@ -8,7 +8,7 @@ ghost use Rattle.head_column.specs.Validity.{samples_from};
 
 use crate::Sample;
 use crate::searching::{count_before, count_used, lists_before};
-use crate::stretch::Stretch;
+use crate::stretch::SampleSlice;
 use std::alloc::{AllocError, Global};
 use std::marker::Model;
 use std::mem;
@@ -95,7 +95,7 @@ fn empty_list(lists: &mut Vec<Vec<Sample>>) -> Result<usize, AllocError>
 }
 
 // Makes room in the last list, which is full: lets it grow if it is short, and else puts it among the others and begins another. It
-// stands apart, so that what `push` inlines stays small.
+// is apart, so that what `push` inlines stays small.
 #[cold]
 #[inline(never)]
 fn open_last(lists: &mut Vec<Vec<Sample>>, last: &mut Vec<Sample>) -> Result<(), AllocError>
@@ -216,12 +216,12 @@ impl SampleLists {
     }
 
     /// Borrows the samples from the time `from` up to the time `to`, exclusive.
-    pub(crate) fn between(&self, from: i128, to: i128) -> Stretch<'_>
+    pub(crate) fn between(&self, from: i128, to: i128) -> SampleSlice<'_>
         requires { Rises self.now.samples }
         ensures { result ≡ filter (λ s. int_le from s.time && int_lt s.time to) self.now.samples }
     {
         let (used, _) = self.lists.split_at(count_used(&self.lists));
-        Stretch::from_time(used, &self.last, from).before_time(to)
+        SampleSlice::from_time(used, &self.last, from).before_time(to)
     }
 
     /// Appends a sample. Returns an error if out of memory, only if there is no room; the samples are then unchanged.

@@ -39,7 +39,7 @@ fn count_before(runs: &[Run], run: &Run) -> usize
     )
 }
 
-// Returns the place of the first run behind those that `run` touches, which begin at place `first`, and the run made of all these.
+// Returns the place of the first run after those that `run` touches, which begin at place `first`, and the run made of all these.
 fn absorbed(runs: &[Run], first: usize, run: &Run) -> (usize, Run)
     requires { first ≤ length runs.now }
     ensures from { first ≤ result.0 }

@@ -29,14 +29,14 @@ fn rest_from(samples: &[Sample], time: i128) -> &[Sample]
 
 /// Consecutive samples, borrowed: of a list, of whole lists that follow, and of one more list. Contracts see all these samples.
 #[derive(Drop)]
-pub(crate) struct Stretch<'a> {
+pub(crate) struct SampleSlice<'a> {
     front: &'a [Sample],
     // Each of these has samples.
     lists: &'a [Vec<Sample>],
     back: &'a [Sample],
 }
 
-impl<'a> Model for Stretch<'a> {
+impl<'a> Model for SampleSlice<'a> {
     ghost use Rattle.std.specs.Prelude.{◌<◌, ◌++◌, All, List, length};
     ghost use Rattle.head_column.specs.declared.items.Sample.{Sample as ASample};
     ghost use Rattle.head_column.specs.Lists.{flat};
@@ -48,22 +48,26 @@ impl<'a> Model for Stretch<'a> {
     ghost invariant = { λ s. All (λ l. 0 < length l.items) s.lists.now };
 }
 
-impl<'a> Stretch<'a> {
+impl<'a> SampleSlice<'a> {
     /// Borrows the samples of the lists and of `last` from the time on. Each of the lists has samples.
-    pub(crate) fn from_time(lists: &'a [Vec<Sample>], last: &'a [Sample], time: i128) -> Stretch<'a>
+    pub(crate) fn from_time(
+        lists: &'a [Vec<Sample>],
+        last: &'a [Sample],
+        time: i128,
+    ) -> SampleSlice<'a>
         requires some { All (λ l. 0 < length l.items) lists.now }
         requires rises { Rises (flat lists.now ++ last.now) }
         ensures { result ≡ samples_from time (flat lists.now ++ last.now) }
     {
         let (_, rest) = lists.split_at(lists_before(lists, time));
         let Some((list, others)) = rest.split_first() else {
-            return Stretch {
+            return SampleSlice {
                 front: rest_from(last, time),
                 lists: rest,
                 back: &[],
             };
         };
-        Stretch {
+        SampleSlice {
             front: rest_from(list, time),
             lists: others,
             back: last,
@@ -71,7 +75,7 @@ impl<'a> Stretch<'a> {
     }
 
     /// Returns those of the samples that are before the time.
-    pub(crate) fn before_time(self, time: i128) -> Stretch<'a>
+    pub(crate) fn before_time(self, time: i128) -> SampleSlice<'a>
         requires { Rises self }
         ensures { result ≡ samples_before time self.entry }
     {
@@ -80,7 +84,7 @@ impl<'a> Stretch<'a> {
             Some((list, _)) => list.as_slice(),
             None => self.back,
         };
-        Stretch {
+        SampleSlice {
             front: front_before(self.front, time),
             lists: whole,
             back: front_before(end, time),
@@ -101,7 +105,7 @@ impl<'a> Stretch<'a> {
         count + self.back.len().min(most - count)
     }
 
-    /// Takes the first samples, at most `most`, which stand in one list. Takes at least one if there are any.
+    /// Takes the first samples, at most `most`, which are in one list. Takes at least one if there are any.
     pub(crate) fn next_part(&mut self, most: usize) -> &'a [Sample]
         requires { 0 < most }
         ensures parts { self.old ≡ result.now ++ self.new }

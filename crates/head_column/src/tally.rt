@@ -35,7 +35,7 @@ impl Tally {
     }
 
     // Applies an item, as `apply` does.
-    fn take(&mut self, item: &Item) -> Outcome
+    fn apply_item(&mut self, item: &Item) -> Outcome
         ensures changed { self.new ≡ latest_after self.old item.now }
         ensures told { result ≡ latest_outcome self.old item.now }
     {
@@ -86,6 +86,6 @@ impl Builder for Tally {
 
         ensures succeeds { IsOk result }
     {
-        Ok(self.take(item))
+        Ok(self.apply_item(item))
     }
 }

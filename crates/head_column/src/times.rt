@@ -5,7 +5,7 @@ ghost use Rattle.head_column.specs.Times.{reaches};
 ghost use Rattle.head_column.specs.Validity.{latest_from};
 
 /// Returns whether there is a greatest time, and it is `time` or later.
-pub(crate) fn reaches(latest: Option<i64>, time: i64) -> bool
+pub fn reaches(latest: Option<i64>, time: i64) -> bool
     ensures { result ≡ reaches latest time }
 {
     match latest {

@@ -43,7 +43,7 @@ unknown_no_outcome : (i : Item) → is_outcome (unknown_fate i) ≡ false
 unknown_no_outcome (item.Sample s) = refl
 unknown_no_outcome (item.Stone r) = refl
 
--- what a second test lets through whole is counted alike behind it
+-- what a second test lets through whole is counted alike after it
 count_by-filter : {A : Type 0} (p q : A → Bool) → ((x : A) → p x ≡ true → q x ≡ true) → (xs : List A) → count_by p (filter q xs) ≡ count_by p xs
 count_by-filter p q h [] = refl
 count_by-filter p q h (x ∷ xs) = by (q x) refl (count_by-filter p q h xs) ∙ sym (sum_by-cons (λ y. cond (p y) 1 0) x xs) where
@@ -54,9 +54,9 @@ count_by-filter p q h (x ∷ xs) = by (q x) refl (count_by-filter p q h xs) ∙ 
     at true k = let j : q x ≡ true = h x k in cc
     at false k = omega arith
 
--- A builder's law, of any kind of value: behind its items it tells what becomes of one more.
+-- A builder's law, of any kind of value: after its items it tells what becomes of one more.
 module _ {V : Type 0} (after : V → Item → V) (told : V → Item → Outcome) (new : V) (law : (items : List Item) (i : Item) → told (fold after new items) i ≡ outcome_of items i) where
-  -- n slots behind the items of the entries
+  -- n slots after the items of the entries
   abbrev slots_behind : List Entry → ℕ → List (ℕ × V)
   slots_behind es n = slots_by (λ s. fold after new (at_slot s (resolved es))) 0 n
 

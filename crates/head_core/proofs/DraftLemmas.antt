@@ -31,7 +31,7 @@ use Rattle.head_resolver.specs.Room.{HaveClasses, HaveCounts, HaveExpired}
 use Rattle.head_resolver.proofs.Entries.{bindings_push, bindings_append, front_at}
 use Rattle.head_core.specs.Content.{Content, AreAlike, AreHistoriesOf, IsContentOf, IsShownBy}
 use Rattle.head_core.specs.Heads.{HeadValue}
-use Rattle.head_core.specs.Room.{Made, sets_of, pointed, to_slot, targets, spare_at, spares_with, HasRoom, HaveSpare, IsReserved}
+use Rattle.head_core.specs.Room.{ReservedValue, sets_of, pointed, to_slot, targets, spare_at, spares_with, HasRoom, HaveSpare, IsReserved}
 use Rattle.head_core.specs.Draft.{Drafted, slot_after, many_at, slots_behind, AreWider, FitsIn, HaveColumns, IsDraft, IsItemEntry, IsKept, IsLonger, IsNoted}
 use Rattle.head_core.proofs.RoomLemmas.{same_many, spare_append, spare_front}
 
@@ -45,7 +45,7 @@ place_front p (x ∷ xs) ys s h = at (p x) (place p xs) refl (λ n e. place_fron
   at false None e deep k = cc
   at false (Some n) e deep k = ap (option_map (λ n. n + 1)) (deep n e) ∙ k
 
--- the place behind a list that has none
+-- the place after a list that has none
 pub place_behind : {A : Type 0} (p : A → Bool) (xs ys : List A) (s : ℕ) → list_any p xs ≡ false → place p ys ≡ Some s → place p (xs ++ ys) ≡ Some (length xs + s)
 place_behind p [] ys s n h = h ∙ ap Some (omega arith)
 place_behind p (x ∷ xs) ys s n h = at (p x) refl n (λ k. place_behind p xs ys s k h) where
@@ -343,7 +343,7 @@ draft_binding h k d f es e is noted ready (more, longer) columns spares same slo
       ∙ ap (λ xs. h.room.spares ++ xs) (map-append (λ (c : ColumnValue). c.spare) d.made.columns more)
       ∙ sym (append_assoc h.room.spares (map (λ c. c.spare) d.made.columns) (map (λ c. c.spare) more))
 
--- wider columns in front of others, and behind others
+-- wider columns in front of others, and after others
 pub wider_front : (xs ys zs : List ℕ) → AreWider xs ys → (s : ℕ) → spare_at (xs ++ zs) s ≤ spare_at (ys ++ zs) s
 wider_front xs ys zs w s = let k = spare_append xs ys zs (λ n. 0) w.many (λ t. let j = w.each t in omega (arith, j)) s in omega (arith, k)
 
@@ -449,11 +449,11 @@ module _ (h k : HeadValue) (d f : Drafted) (es : List Entry) (e : Entry) (r : �
   draft_own s many slot content wider within same more counts room =
       let made : f.made ≡ d.made = ap (λ (x : Drafted). x.made) same in
       let zs = map (λ (c : ColumnValue). c.spare) d.made.columns in
-      let behind : spares_with k.room f.made ≡ k.room.spares ++ zs = ap (λ (m : Made). k.room.spares ++ map (λ (c : ColumnValue). c.spare) m.columns) made in
+      let behind : spares_with k.room f.made ≡ k.room.spares ++ zs = ap (λ (m : ReservedValue). k.room.spares ++ map (λ (c : ColumnValue). c.spare) m.columns) made in
       let long = wider.many in
       draft_item h k d f es e r is have s many slot content wider.many
-      (ap (λ (x : Drafted). x.plan) same) (ap (λ (x : Drafted). x.batch) same) (ap (λ (m : Made). m.ready) made) (ap (λ (x : Drafted). x.series) same) (ap (λ (x : Drafted). x.slots) same)
-      (columns_same d f (ap (λ (m : Made). m.columns) made) (ap (λ (x : Drafted). x.series) same) have.columns) more counts
+      (ap (λ (x : Drafted). x.plan) same) (ap (λ (x : Drafted). x.batch) same) (ap (λ (m : ReservedValue). m.ready) made) (ap (λ (x : Drafted). x.series) same) (ap (λ (x : Drafted). x.slots) same)
+      (columns_same d f (ap (λ (m : ReservedValue). m.columns) made) (ap (λ (x : Drafted). x.series) same) have.columns) more counts
       (λ q. subst (λ xs. spare_at (spares_with h.room d.made) q ≤ spare_at xs q) (sym behind) (wider_front h.room.spares k.room.spares zs wider q))
       (subst (λ n. many ≤ n) (sym (ap (λ xs. spare_at xs s) behind ∙ spare_front k.room.spares zs s (omega (arith, within, long)))) room)
 
@@ -465,17 +465,17 @@ module _ (h k : HeadValue) (d f : Drafted) (es : List Entry) (e : Entry) (r : �
   draft_made g s many slot same last columns wider past more counts room within =
       let made : g.made ≡ d.made = ap (λ (x : Drafted). x.made) same in
       let first = ap (λ (x : Drafted). x.series) same in
-      let cs : map (λ (c : ColumnValue). c.spare) g.made.columns ≡ map (λ (c : ColumnValue). c.spare) d.made.columns = ap (λ (m : Made). map (λ (c : ColumnValue). c.spare) m.columns) made in
+      let cs : map (λ (c : ColumnValue). c.spare) g.made.columns ≡ map (λ (c : ColumnValue). c.spare) d.made.columns = ap (λ (m : ReservedValue). map (λ (c : ColumnValue). c.spare) m.columns) made in
       let ds = map (λ (c : ColumnValue). c.spare) f.made.columns in
       let a = length-append h.content.table.series d.series in
       let b = have.own in
       let l = have.columns.each in
-      let n = ap (λ (m : Made). length m.columns) made in
+      let n = ap (λ (m : ReservedValue). length m.columns) made in
       draft_item h h d f es e r is have s many slot refl refl
       (ap (λ (x : Drafted). x.plan) last ∙ ap (λ (x : Drafted). x.plan) same) (ap (λ (x : Drafted). x.batch) last ∙ ap (λ (x : Drafted). x.batch) same)
-      (ap (λ (x : Drafted). x.made.ready) last ∙ ap (λ (m : Made). m.ready) made)
+      (ap (λ (x : Drafted). x.made.ready) last ∙ ap (λ (m : ReservedValue). m.ready) made)
       (ap (λ (x : Drafted). x.series) last ∙ first) (ap (λ (x : Drafted). x.slots) last ∙ ap (λ (x : Drafted). x.slots) same)
-      (columns (columns_same d g (ap (λ (m : Made). m.columns) made) first have.columns)) more (λ q. ap (λ (x : Drafted). many_at x q) last ∙ counts q)
+      (columns (columns_same d g (ap (λ (m : ReservedValue). m.columns) made) first have.columns)) more (λ q. ap (λ (x : Drafted). many_at x q) last ∙ counts q)
       (λ q. subst (λ xs. spare_at (h.room.spares ++ xs) q ≤ spare_at (h.room.spares ++ ds) q) cs (wider_behind h.room.spares (map (λ c. c.spare) g.made.columns) ds wider q))
       (subst (λ m. many ≤ m) (sym (spare_behind h.room.spares ds s past)) (room (omega (arith, within, past, a, b, l, n))))
 
@@ -492,7 +492,7 @@ whole_at f es xs i x within is =
     ∙ ap (λ fs. fs ++ map f (drop (i + 1) xs)) (sym (front_push f es xs i x within is))
 
 -- what room was made for, once there is room for as many columns as there are bindings
-pub draft_reserved : (k l : HeadValue) (d : Drafted) (m : Made) (rs : List WalRecord) → IsDraft k d (entries_of rs) → l.content ≡ k.content → l.failed ≡ false → l.room.spares ≡ k.room.spares
+pub draft_reserved : (k l : HeadValue) (d : Drafted) (m : ReservedValue) (rs : List WalRecord) → IsDraft k d (entries_of rs) → l.content ≡ k.content → l.failed ≡ false → l.room.spares ≡ k.room.spares
     → length d.made.ready ≤ l.room.columns → HaveCounts k.content.counts (entries_of rs) → HaveClasses k.content.counts rs → HaveExpired k.content.counts (entries_of rs) → m ≡ d.made → IsReserved l m rs
 draft_reserved k l d m rs have content sound spares many counts classes expired made =
     subst (λ x. IsReserved l x rs) (sym made) (subst (λ (x : Content). IsReserved (record { content = x; failed = l.failed; room = l.room }) d.made rs) (sym content)

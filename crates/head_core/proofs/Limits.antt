@@ -24,7 +24,7 @@ use Rattle.head_core.specs.Steps.{ColumnLaw, told, IsOver, Takes}
 use Rattle.head_core.proofs.Lists.{all_behind, all_front}
 use Rattle.head_core.proofs.Reading.{IsReadBy, counted_read, takes_read, takes_time, told_from}
 
--- What was read is followed by an entry that is over a limit: nothing that was taken with these entries, and whatever is behind them, is
+-- What was read is followed by an entry that is over a limit: nothing that was taken with these entries, and whatever is after them, is
 -- within the limits.
 module _ (law : ColumnLaw) (base : Counts) {es : List Entry} {x : Content} (h : IsReadBy base es x) (most : x.table.most ≡ 4294967295) (e : Entry) (from : IsFrom x.min_valid e) (more : List Entry) (t : Taken)
     (are : entries_of t.kept ≡ es ++ e ∷ more) (w : IsWithinLimits t) where

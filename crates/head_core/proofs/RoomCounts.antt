@@ -13,7 +13,7 @@ use Rattle.head_resolver.specs.Room.{HaveClasses, HaveExpired}
 use Rattle.head_resolver.specs.Steps.{count_of_fate, with_expired, with_fate, with_record}
 use Rattle.head_core.specs.Content.{Content}
 use Rattle.head_core.specs.Heads.{ColumnRoom, HeadValue}
-use Rattle.head_core.specs.Room.{Made, HasRoom}
+use Rattle.head_core.specs.Room.{ReservedValue, HasRoom}
 use Rattle.head_core.specs.Steps.{told, Takes, none, more}
 
 -- the counts of entries, where a record was counted
@@ -147,7 +147,7 @@ takes_expired {c} {d} es (more fs m e k t s) =
     )
 
 -- the room where a record was counted
-pub room_counted : (h k : HeadValue) (m : Made) (r : WalRecord) (es : List Entry) → k.content ≡ record h.content { counts = with_expired h.content.min_valid r (with_record r h.content.counts) } → k.room ≡ h.room → HasRoom h m es → HasRoom k m es
+pub room_counted : (h k : HeadValue) (m : ReservedValue) (r : WalRecord) (es : List Entry) → k.content ≡ record h.content { counts = with_expired h.content.min_valid r (with_record r h.content.counts) } → k.room ≡ h.room → HasRoom h m es → HasRoom k m es
 room_counted h k m r es content room have =
     let v = h.content.min_valid in
     subst (λ (x : Content). HasRoom (record { content = x; failed = k.failed; room = k.room }) m es) (sym content)

@@ -25,9 +25,9 @@ use Rattle.head_resolver.specs.Steps.{count_of_fate, with_fate}
 use Rattle.head_resolver.specs.Room.{HaveCounts}
 use Rattle.head_core.specs.Heads.{ColumnRoom, HeadValue}
 use Rattle.head_core.specs.Steps.{found, told_item}
-use Rattle.head_core.specs.Room.{CanPut, sets_of, pointed, to_slot, targets, spare_at, HaveSpare, Made, spares_with, HasRoom, PutUses}
+use Rattle.head_core.specs.Room.{CanPut, sets_of, pointed, to_slot, targets, spare_at, HaveSpare, ReservedValue, spares_with, HasRoom, PutUses}
 
--- behind two lists that are as long, others stand alike
+-- after two lists that are as long, others are alike
 pub spare_append : (xs ys zs : List ℕ) (n : ℕ → ℕ) → length ys ≡ length xs → ((s : ℕ) → spare_at xs s ≤ spare_at ys s + n s) → (s : ℕ) → spare_at (xs ++ zs) s ≤ spare_at (ys ++ zs) s + n s
 spare_append [] [] zs n l h s = omega arith
 spare_append [] (y ∷ ys) zs n l h s = cc
@@ -112,7 +112,7 @@ counts_left c d g e es is h f =
     let l = subst (λ x. count_of_fate f x ≤ count_of_fate f c + 1) (sym is) (one_fate f g c) in
     omega (arith, k, l)
 
-module _ (h k : HeadValue) (m : Made) (r : ℕ) (ts : List ℕ) (uses : PutUses h k r) where
+module _ (h k : HeadValue) (m : ReservedValue) (r : ℕ) (ts : List ℕ) (uses : PutUses h k r) where
   pub spares_left : HaveSpare (spares_with h.room m) (to_slot (slot_at h.content.table r) ts) → HaveSpare (spares_with k.room m) ts
   spares_left have s =
       let a = have s in
@@ -144,7 +144,7 @@ put_none h k r is = record {
 }
 
 -- room for an item that is left out is room for the others
-pub without_sample : (h : HeadValue) (m : Made) (x : SampleEntry) (es : List Entry) → HasRoom h m (sample x ∷ es) → HasRoom h m es
+pub without_sample : (h : HeadValue) (m : ReservedValue) (x : SampleEntry) (es : List Entry) → HasRoom h m (sample x ∷ es) → HasRoom h m es
 without_sample h m x es have = record {
   ready = have.ready;
   table = have.table;
@@ -156,7 +156,7 @@ without_sample h m x es have = record {
   counts = λ f. let a = have.counts f in omega (arith, a);
 }
 
-pub without_stone : (h : HeadValue) (m : Made) (x : StoneEntry) (es : List Entry) → HasRoom h m (stone x ∷ es) → HasRoom h m es
+pub without_stone : (h : HeadValue) (m : ReservedValue) (x : StoneEntry) (es : List Entry) → HasRoom h m (stone x ∷ es) → HasRoom h m es
 without_stone h m x es have = record {
   ready = have.ready;
   table = have.table;
@@ -169,7 +169,7 @@ without_stone h m x es have = record {
 }
 
 -- a deletion that is raised takes the room of the whole
-pub raised_room : (h : HeadValue) (m : Made) (t : ℤ) (x : StoneEntry) (es : List Entry) → HasRoom h m (stone x ∷ es) → HasRoom h m (stone (raised t x) ∷ es)
+pub raised_room : (h : HeadValue) (m : ReservedValue) (t : ℤ) (x : StoneEntry) (es : List Entry) → HasRoom h m (stone x ∷ es) → HasRoom h m (stone (raised t x) ∷ es)
 raised_room h m t x es have = record {
   ready = have.ready;
   table = have.table;
@@ -181,8 +181,8 @@ raised_room h m t x es have = record {
   counts = have.counts;
 }
 
--- room for the entries behind a sample
-pub sample_left : (h k : HeadValue) (m : Made) (x : SampleEntry) (es : List Entry) (g : Fate) → HasRoom h m (sample x ∷ es) → PutUses h k x.reference
+-- room for the entries after a sample
+pub sample_left : (h k : HeadValue) (m : ReservedValue) (x : SampleEntry) (es : List Entry) (g : Fate) → HasRoom h m (sample x ∷ es) → PutUses h k x.reference
     → k.content.table ≡ h.content.table → k.content.postings ≡ h.content.postings → k.content.counts ≡ with_fate g h.content.counts → HasRoom k m es
 sample_left h k m x es g have uses table postings counts = record {
   ready = have.ready;
@@ -197,8 +197,8 @@ sample_left h k m x es g have uses table postings counts = record {
   counts = counts_left h.content.counts k.content.counts g (sample x) es counts have.counts;
 }
 
--- room for the entries behind a deletion
-pub stone_left : (h k : HeadValue) (m : Made) (x : StoneEntry) (es : List Entry) (g : Fate) → HasRoom h m (stone x ∷ es) → PutUses h k x.reference
+-- room for the entries after a deletion
+pub stone_left : (h k : HeadValue) (m : ReservedValue) (x : StoneEntry) (es : List Entry) (g : Fate) → HasRoom h m (stone x ∷ es) → PutUses h k x.reference
     → k.content.table ≡ h.content.table → k.content.postings ≡ h.content.postings → k.content.counts ≡ with_fate g h.content.counts → HasRoom k m es
 stone_left h k m x es g have uses table postings counts = record {
   ready = have.ready;
@@ -223,7 +223,7 @@ all_first P x xs h = h zero x (omega arith)
 pub all_rest : {A : Type 0} (P : A → Type 0) (x : A) (xs : List A) → All P (x ∷ xs) → All P xs
 all_rest P x xs h = λ k d l. h (suc k) d (omega (arith, l))
 
--- The columns with those behind them are the same list, where the first of these went to the end of those.
+-- The columns with those after them are the same list, where the first of these went to the end of those.
 pub moved_spares : (cs ds : List ColumnValue) (x : ColumnValue) (rest : List ColumnValue) → ds ≡ cs ++ x ∷ [] → map (λ c. c.spare) ds ++ map (λ c. c.spare) rest ≡ map (λ c. c.spare) cs ++ map (λ c. c.spare) (x ∷ rest)
 moved_spares cs ds x rest e =
     ap (λ (xs : List ColumnValue). map (λ c. c.spare) xs ++ map (λ c. c.spare) rest) e
@@ -255,20 +255,20 @@ spare_first spares (Some q) ts p h e =
         let k : count_by (nat_eq n) (n ∷ us) ≡ count_by (nat_eq n) (n ∷ []) + count_by (nat_eq n) us = sum_by-append (λ q. cond (nat_eq n q) 1 0) (n ∷ []) us in
         omega (arith, j, k)
 
-pub can_sample : (h : HeadValue) (m : Made) (x : SampleEntry) (es : List Entry) → HasRoom h m (sample x ∷ es) → CanPut h m x.reference (sample_item x)
+pub can_sample : (h : HeadValue) (m : ReservedValue) (x : SampleEntry) (es : List Entry) → HasRoom h m (sample x ∷ es) → CanPut h m x.reference (sample_item x)
 can_sample h m x es have = record {
   spare = λ s e. spare_first (spares_with h.room m) (slot_at h.content.table x.reference) (targets h.content.table.series (slot_at h.content.table) es) s have.spares e;
   count = (let k = have.counts (told_item (found h.content.table h.content.histories x.reference) (sample_item x)) in omega (arith, k));
 }
 
-pub can_stone : (h : HeadValue) (m : Made) (x : StoneEntry) (es : List Entry) → HasRoom h m (stone x ∷ es) → CanPut h m x.reference (stone_item x)
+pub can_stone : (h : HeadValue) (m : ReservedValue) (x : StoneEntry) (es : List Entry) → HasRoom h m (stone x ∷ es) → CanPut h m x.reference (stone_item x)
 can_stone h m x es have = record {
   spare = λ s e. spare_first (spares_with h.room m) (slot_at h.content.table x.reference) (targets h.content.table.series (slot_at h.content.table) es) s have.spares e;
   count = (let k = have.counts (told_item (found h.content.table h.content.histories x.reference) (stone_item x)) in omega (arith, k));
 }
 
 -- Room for a binding: the table is not full.
-pub room_not_full : (h : HeadValue) (m : Made) (e : SeriesEntry) (es : List Entry) → HasRoom h m (series e ∷ es) → has_series h.content.table.series e.labels ≡ false → IsFull h.content.table e.labels → ⊥
+pub room_not_full : (h : HeadValue) (m : ReservedValue) (e : SeriesEntry) (es : List Entry) → HasRoom h m (series e ∷ es) → has_series h.content.table.series e.labels ≡ false → IsFull h.content.table e.labels → ⊥
 room_not_full h m e es have new (absent, over) = by over where
   ss : List Labels
   ss = h.content.table.series
@@ -294,7 +294,7 @@ series_longer ss (b ∷ bs) = at (has_series ss b.labels) (series_longer (with_s
   at false l e = let k : with_series ss b.labels ≡ ss ++ b.labels ∷ [] = ap (λ t. if t then ss else ss ++ b.labels ∷ []) e in let j = ap length k ∙ length-append ss (b.labels ∷ []) in omega (arith, l, j)
 
 -- Where a series will be new, a column was made for it.
-pub column_made : (h : HeadValue) (m : Made) (e : SeriesEntry) (es : List Entry) → HasRoom h m (series e ∷ es) → length h.room.spares ≡ length h.content.table.series → has_series h.content.table.series e.labels ≡ false → 0 < length m.columns
+pub column_made : (h : HeadValue) (m : ReservedValue) (e : SeriesEntry) (es : List Entry) → HasRoom h m (series e ∷ es) → length h.room.spares ≡ length h.content.table.series → has_series h.content.table.series e.labels ≡ false → 0 < length m.columns
 column_made h m e es have each new =
     let ss = h.content.table.series in
     let grown : with_series ss e.labels ≡ ss ++ e.labels ∷ [] = ap (λ t. if t then ss else ss ++ e.labels ∷ []) new in
@@ -311,8 +311,8 @@ targets_bound t u e es s grown at with =
     let now : slot_at u ≡ pointed (slot_at t) e.reference (Some s) = fun_ext with in
     ap (λ a. targets u.series a es) (now ∙ ap (pointed (slot_at t) e.reference) slot) ∙ ap (λ ss. targets ss (pointed (slot_at t) e.reference (place (same_labels e.labels) (with_series t.series e.labels))) es) grown
 
--- Room for the entries behind a binding, where the columns are the same list, those that were made behind those of the head.
-pub bound_left : (h k : HeadValue) (m n : Made) (e : SeriesEntry) (es : List Entry) (s : ℕ) → HasRoom h m (series e ∷ es)
+-- Room for the entries after a binding, where the columns are the same list, those that were made after those of the head.
+pub bound_left : (h k : HeadValue) (m n : ReservedValue) (e : SeriesEntry) (es : List Entry) (s : ℕ) → HasRoom h m (series e ∷ es)
     → m.ready ≡ e.labels ∷ n.ready → table_room.HasRoom k.content.table (bindings es) → postings_room.HasRoom k.content.postings (sets_of es) → h.room.columns ≤ k.room.columns + 1
     → spares_with k.room n ≡ spares_with h.room m → All (λ c. c.history ≡ no_history) n.columns
     → k.content.table.series ≡ with_series h.content.table.series e.labels → place (same_labels e.labels) k.content.table.series ≡ Some s → IsWith (slot_at h.content.table) e.reference s (slot_at k.content.table)

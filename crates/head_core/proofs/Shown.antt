@@ -15,7 +15,7 @@ use Rattle.head_core.specs.Steps.{ColumnLaw, told_item, found, told}
 use Rattle.head_core.proofs.Lists.{AllZip-length, AllZip-at}
 
 -- no entries
--- what stands in the slot of a reference: its owner, and that one's history
+-- what is in the slot of a reference: its owner, and that one's history
 pub record Stands (es : List Entry) (c : Content) (r p : ℕ) : Type 0 where
   pub labels : Labels
   pub history : History
@@ -66,7 +66,7 @@ module _ {es : List Entry} {c : Content} (h : IsShownBy es c) where
           let s = stands r p e in
           ap (λ o. told_item o i) s.here ∙ ap fate_of (law.outcome (items_of s.labels es) s.history i s.made) ∙ ap (λ o. item_fate es o i) (sym s.owned)
 
-    -- what becomes of an entry is told by what is shown
+    -- what becomes of an entry is reported by what is shown
     pub told_is : (e : Entry) → told c.table c.histories e ≡ fate_at es e
     told_is (series e) = refl
     told_is (sample s) = told_item_is s.reference (sample_item s)

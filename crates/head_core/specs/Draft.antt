@@ -12,14 +12,14 @@ use Rattle.head_postings.specs.Room as postings_room
 use Rattle.head_resolver.specs.Owners.{bindings}
 use Rattle.head_core.specs.Content.{Content, AreAlike}
 use Rattle.head_core.specs.Heads.{HeadValue}
-use Rattle.head_core.specs.Room.{sets_of, pointed, targets, spare_at, HaveSpare, Made, spares_with}
+use Rattle.head_core.specs.Room.{sets_of, pointed, targets, spare_at, HaveSpare, ReservedValue, spares_with}
 
 -- What was made for the records so far; and of these the label sets that will be new, the slot that each reference which they bind will
 -- have, and the number of items of each slot.
 pub record Drafted : Type 0 where
   pub plan : table_room.Planned
   pub batch : postings_room.Counted
-  pub made : Made
+  pub made : ReservedValue
   pub series : List Labels
   pub slots : List (ℕ × ℕ)
   pub counts : List (ℕ × ℕ)

@@ -48,16 +48,16 @@ HaveSpare spares slots = (s : ℕ) → count_by (nat_eq s) slots ≤ spare_at sp
 
 -- What was made for a list of records: for each label set that they bind, in order, the memory of the binding; and columns for the series
 -- that will be new.
-pub record Made : Type 0 where
+pub record ReservedValue : Type 0 where
   pub ready : List Labels
   pub columns : List ColumnValue
 
 -- the number of items that each column takes without allocating: first the columns of a head, then those that were made
-abbrev pub spares_with : ColumnRoom → Made → List ℕ
+abbrev pub spares_with : ColumnRoom → ReservedValue → List ℕ
 spares_with r m = r.spares ++ map (λ c. c.spare) m.columns
 
 -- These entries can be taken in turn, with what was made for them, without allocating.
-pub record HasRoom (h : HeadValue) (m : Made) (es : List Entry) : Type 0 where
+pub record HasRoom (h : HeadValue) (m : ReservedValue) (es : List Entry) : Type 0 where
   pub ready : m.ready ≡ sets_of es
   pub table : table_room.HasRoom h.content.table (bindings es)
   pub postings : postings_room.HasRoom h.content.postings (sets_of es)
@@ -68,7 +68,7 @@ pub record HasRoom (h : HeadValue) (m : Made) (es : List Entry) : Type 0 where
   pub counts : HaveCounts h.content.counts es
 
 -- The records can be applied in turn, with what was made for them, without allocating.
-pub record IsReserved (h : HeadValue) (m : Made) (rs : List WalRecord) : Type 0 where
+pub record IsReserved (h : HeadValue) (m : ReservedValue) (rs : List WalRecord) : Type 0 where
   pub sound : h.failed ≡ false
   pub room : HasRoom h m (entries_of rs)
   pub classes : HaveClasses h.content.counts rs
@@ -83,7 +83,7 @@ pub record Fits (c : Content) (rs : List WalRecord) : Type 0 where
 
 -- The item can be taken without allocating: the column of its reference has room for it, and so has its count. A word of proofs, which no
 -- public contract cites.
-pub record CanPut (h : HeadValue) (m : Made) (r : ℕ) (i : Item) : Type 0 where
+pub record CanPut (h : HeadValue) (m : ReservedValue) (r : ℕ) (i : Item) : Type 0 where
   pub spare : (s : ℕ) → slot_at h.content.table r ≡ Some s → 0 < spare_at (spares_with h.room m) s
   pub count : count_of_fate (told_item (found h.content.table h.content.histories r) i) h.content.counts < count_limit
 

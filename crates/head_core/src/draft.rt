@@ -13,7 +13,7 @@ ghost use Rattle.head_core.specs.Room.{spare_at};
 use crate::reserved::Reserved;
 use hash_seed::HashSeed;
 use head_column::Column;
-use head_postings::{Batch, Postings};
+use head_postings::{Postings, PostingsBatch};
 use head_series::{Plan, Ready, SeriesTable, Slot};
 use indexmap::IndexMap;
 use std::alloc::{AllocError, Global};
@@ -24,9 +24,9 @@ use wal_record::{LabelSet, SeriesEntry};
 /// What was made for the records so far, and what these say beyond the head: the series that will be new (a table), the slot that each
 /// reference which they bind will have, and the number of items of each slot.
 #[derive(Debug)]
-pub(crate) struct Draft {
+pub(crate) struct RoomDraft {
     pub(crate) plan: Plan,
-    pub(crate) batch: Batch,
+    pub(crate) batch: PostingsBatch,
     pub(crate) ready: VecDeque<Ready>,
     pub(crate) columns: VecDeque<Column>,
     series: SeriesTable,
@@ -35,9 +35,9 @@ pub(crate) struct Draft {
 }
 
 // Written out so that the proof of a function that drops a draft has one call, and not a copy of this.
-impl Drop for Draft {
+impl Drop for RoomDraft {
     fn drop(self) {
-        let Draft {
+        let RoomDraft {
             plan: _plan,
             batch: _batch,
             ready: _ready,
@@ -49,7 +49,7 @@ impl Drop for Draft {
     }
 }
 
-impl Model for Draft {
+impl Model for RoomDraft {
     ghost use Rattle.head_core.specs.Draft.{Drafted};
 
     ghost Value = { Drafted };
@@ -64,13 +64,13 @@ impl Model for Draft {
     } };
 }
 
-impl Draft {
+impl RoomDraft {
     // Returns the draft of no records.
-    pub(crate) fn new(table: &SeriesTable, postings: &Postings, alloc: Global) -> Draft
+    pub(crate) fn new(table: &SeriesTable, postings: &Postings, alloc: Global) -> RoomDraft
         ensures { (h : HeadValue) → h.content.table ≡ table.now → h.content.postings ≡ postings.now → length h.room.spares ≡ length table.now.series → IsDraft h result [] }
     {
         let seed = table.seed();
-        Draft {
+        RoomDraft {
             plan: table.plan(),
             batch: postings.batch(),
             ready: VecDeque::new(alloc),
@@ -175,7 +175,7 @@ impl Draft {
     pub(crate) fn into_reserved(self) -> Reserved
         ensures { result ≡ self.made }
     {
-        let Draft {
+        let RoomDraft {
             plan: _plan,
             batch: _batch,
             ready,

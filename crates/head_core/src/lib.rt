@@ -17,7 +17,7 @@ mod views;
 pub use head::Head;
 pub use head_column::{Chunk, Column, Hour, Item, Outcome, Run, Sample};
 pub use head_resolver::{
-    Changes, Counts, HeadFault, Resolver, slots_stay, spread_ahead, spread_records,
+    Changes, CountFull, Counts, HeadFault, Resolver, slots_stay, spread_ahead, spread_records,
 };
 pub use head_series::Slot;
 pub use laws::{

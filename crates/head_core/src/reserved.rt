@@ -6,7 +6,7 @@ use std::collections::VecDeque;
 use std::marker::Model;
 
 /// What applying a list of records needs besides room in the head: the memory of each binding, and the columns of the series that will
-/// be new. `Head::reserve` returns it, and `Head::apply_reserved` takes it. Contracts see it as `Made`.
+/// be new. `Head::reserve` returns it, and `Head::apply_reserved` takes it. Contracts see it as `ReservedValue`.
 #[derive(Debug)]
 pub struct Reserved {
     pub(crate) ready: VecDeque<Ready>,
@@ -24,9 +24,9 @@ impl Drop for Reserved {
 }
 
 impl Model for Reserved {
-    ghost use Rattle.head_core.specs.Room.{Made};
+    ghost use Rattle.head_core.specs.Room.{ReservedValue};
 
-    ghost Value = { Made };
+    ghost Value = { ReservedValue };
 
     ghost view = { λ r. record { ready = r.ready.items; columns = r.columns.items } };
 }

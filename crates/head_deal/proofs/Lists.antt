@@ -147,7 +147,7 @@ module _ {I : Type 0} where
             );
       }
 
--- the lists as they stand in memory
+-- the lists as they are in memory
 module _ {T : Type 0} where
   lists-at : (rows : List (Vec T Global)) (k : ℕ) (l : Vec T Global) → l ≡ get_or rows k l → l.items ≡ get_or (map (λ l. l.items) rows) k l.items
   lists-at rows k l at = ap (λ l. l.items) at ∙ sym (get_or-map (λ l. l.items) rows k l)

@@ -4,17 +4,17 @@ use Rattle.std.specs.List.{flat_map}
 use Rattle.head_deal.specs.Jobs.{Job}
 use Rattle.head_deal.specs.Entries.{entries}
 use Rattle.head_deal.specs.declared.parts.Due.{Due}
-use Rattle.head_deal.specs.declared.batches.Batch.{Batch}
+use Rattle.head_deal.specs.declared.batches.ItemBatch.{ItemBatch}
 
 -- the due with its number counted from the base
 abbrev pub shifted : {I : Type 0} → ℕ → Due I → Due I
 shifted base due = record { number = base + due.number; element = due.element; item = due.item }
 
 -- the dues of a batch, and of all batches, one after another
-abbrev pub dues_in : {I : Type 0} → Batch I → List (Due I)
+abbrev pub dues_in : {I : Type 0} → ItemBatch I → List (Due I)
 dues_in batch = map (shifted batch.base) batch.dues.items
 
-abbrev pub flat : {I : Type 0} → List (Batch I) → List (Due I)
+abbrev pub flat : {I : Type 0} → List (ItemBatch I) → List (Due I)
 flat = flat_map dues_in
 
 -- the dues as jobs of the worker that wait for their turn

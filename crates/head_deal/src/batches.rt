@@ -11,7 +11,7 @@ use std::alloc::{AllocError, Global};
 
 /// Items of one worker, with their numbers counted from `base`.
 #[derive(Drop)]
-pub(crate) struct Batch<I> {
+pub(crate) struct ItemBatch<I> {
     pub(crate) base: u32,
     pub(crate) dues: Vec<Due<I>>,
 }
@@ -30,7 +30,7 @@ pub(crate) fn empty_list<T: Drop>(alloc: Global, spare: &mut Vec<Vec<T>>) -> Vec
 
 /// Returns the place of the last batch, to which the item of a number can be added. Begins a batch if none can take it.
 pub(crate) fn open_last<I: Drop>(
-    batches: &mut Vec<Batch<I>>,
+    batches: &mut Vec<ItemBatch<I>>,
     spare: &mut Vec<Vec<Due<I>>>,
     number: u32,
 ) -> Result<usize, AllocError>
@@ -45,12 +45,12 @@ pub(crate) fn open_last<I: Drop>(
         return Ok(count - 1);
     }
     let dues = empty_list(*batches.allocator(), spare);
-    batches.push(Batch { base: 0, dues })?;
+    batches.push(ItemBatch { base: 0, dues })?;
     Ok(count)
 }
 
 /// Returns the batch of the item at a place among all, and the item's place in the batch.
-pub(crate) fn batch_of<I>(batches: &Vec<Batch<I>>, place: usize) -> (usize, usize)
+pub(crate) fn batch_of<I>(batches: &Vec<ItemBatch<I>>, place: usize) -> (usize, usize)
     requires { place < length (flat batches.now.items) }
     ensures batch { result.0 < length batches.now.items }
     ensures place { (b : _) → result.1 < length (slice_index_or batches.now.items result.0 b).dues.items }
@@ -70,7 +70,7 @@ pub(crate) fn batch_of<I>(batches: &Vec<Batch<I>>, place: usize) -> (usize, usiz
 /// Writes each outcome at its item's number.
 pub(crate) fn note_outcomes<I, O: Copy>(
     all: &mut Vec<O>,
-    batches: &Vec<Batch<I>>,
+    batches: &Vec<ItemBatch<I>>,
     outcomes: &Vec<O>,
     workers: usize,
     worker: usize,
@@ -91,7 +91,7 @@ pub(crate) fn note_outcomes<I, O: Copy>(
 }
 
 /// Drops all items, and keeps their lists, emptied. Keeps no more lists than were used, or than were spare if that is more.
-pub(crate) fn empty<I: Drop>(batches: &mut Vec<Batch<I>>, spare: &mut Vec<Vec<Due<I>>>)
+pub(crate) fn empty<I: Drop>(batches: &mut Vec<ItemBatch<I>>, spare: &mut Vec<Vec<Due<I>>>)
     requires { All (λ l. l.items ≡ []) spare.old.items }
     ensures none { flat batches.new.items ≡ [] }
     ensures spare { All (λ l. l.items ≡ []) spare.new.items }

@@ -46,8 +46,9 @@ ghost use Rattle.head_deal.specs.Spreads.{dealt_all};
 ghost use Rattle.head_deal.specs.declared.Stepped.TheVariants.{Empty};
 
 use crate::parts::{Part, build_parts, count_in, lone_part, queue_all};
-use crate::seats::{Seat, make_room, make_seats, seat_next};
-use crate::spread::{make_rows, seat_all};
+use crate::preparing::{prepare, prepare_alone};
+use crate::seats::{Seat, make_room, seat_next};
+use crate::spread::seat_all;
 use crate::spreads::Spread;
 use crate::workers::Workers;
 use crate::{Builder, Stepped};
@@ -56,6 +57,9 @@ use std::marker::Model;
 
 // The limit of a deal's slots: plus 64, for the workers, it still fits in a `usize`.
 const MOST_SLOTS: usize = usize::MAX - 64;
+
+/// The number of items after which a deal takes no more.
+pub const MOST_ITEMS: usize = 1 << 32;
 
 /// Why a deal was not made.
 #[derive(Debug, Clone, Copy, PartialEq, Eq)]
@@ -329,7 +333,7 @@ impl<B: Builder> Deal<B> {
     {
         let seat = self.seats[slot as usize];
         let number = self.count as u32;
-        match self.parts[seat.worker as usize].take(number, seat.element, item) {
+        match self.parts[seat.worker as usize].enqueue(number, seat.element, item) {
             Ok(()) => {
                 self.count += 1;
                 Ok(())
@@ -400,40 +404,6 @@ impl<B: Builder> Deal<B> {
         count_in(&mut parts, slots, count);
         Ok(parts)
     }
-}
-
-// Returns the seats of the slots whose numbers fit in a `u32`, and a list with room for one part.
-fn prepare_alone<B: Builder>(
-    alloc: Global,
-    one: Workers,
-    slots: usize,
-) -> Result<(Vec<Seat>, Vec<Part<B>>), AllocError>
-    ensures seats { IfOk result (λ r. AreSeats one.number r.0.items × (length r.0.items ≡ min slots (2 ^ 32))) }
-    ensures parts { IfOk result (λ r. (r.1.items ≡ []) × (1 ≤ vec_capacity r.1)) }
-{
-    let seats = make_seats(alloc, one, slots.min(4_294_967_296))?;
-    let parts = Vec::with_capacity(alloc, 1)?;
-    Ok((seats, parts))
-}
-
-// Returns the seats of the slots whose numbers fit in a `u32`, for each worker an empty row with room for its builders, and a list with
-// room for the parts.
-fn prepare<B: Builder>(
-    alloc: Global,
-    workers: Workers,
-    slots: usize,
-) -> Result<(Vec<Seat>, Vec<Vec<B>>, Vec<Part<B>>), AllocError>
-    requires small { slots + workers.number < 2 ^ 64 }
-    ensures seats { IfOk result (λ r. AreSeats workers.number r.0.items × (length r.0.items ≡ min slots (2 ^ 32))) }
-    ensures rows { IfOk result (λ r. (length r.1.items ≡ workers.number) ×
-        ((k : ℕ) (d : _) → k < workers.number → ((slice_index_or r.1.items k d).items ≡ []) × (slots ≤ vec_capacity (slice_index_or r.1.items k d) * workers.number))) }
-    ensures parts { IfOk result (λ r. (r.2.items ≡ []) × (workers.number ≤ vec_capacity r.2)) }
-{
-    let number = workers.number;
-    let seats = make_seats(alloc, workers, slots.min(4_294_967_296))?;
-    let rows = make_rows(alloc, number, slots / number + 1)?;
-    let parts = Vec::with_capacity(alloc, number)?;
-    Ok((seats, rows, parts))
 }
 
 /// The ending of a slot and of its items depends only on the slot's value and its own items.

@@ -20,13 +20,16 @@ mod batches;
 mod dealing;
 mod joining;
 mod parts;
+mod preparing;
 mod seats;
 mod spread;
 mod spreads;
 mod workers;
 
 pub use again::{deal_again, outcomes_in_parts, parts_end};
-pub use dealing::{AddFault, AddRefused, Deal, DealFault, DealRefused, deal_theorem, slots_alone};
+pub use dealing::{
+    AddFault, AddRefused, Deal, DealFault, DealRefused, MOST_ITEMS, deal_theorem, slots_alone,
+};
 pub use joining::{JoinFault, JoinRefused, Joined, join_parts};
 pub use parts::{Part, run_part};
 pub use seats::Seats;
@@ -51,7 +54,7 @@ pub trait Builder: Drop {
     /// The outcome of an item.
     ghost outcome: { Value → Self.Item → Self.Outcome };
 
-    /// Takes an item, and returns its outcome. Returns an error, with the value unchanged, if out of memory.
+    /// Applies an item, and returns its outcome. Returns an error, with the value unchanged, if out of memory.
     fn apply(&mut self, item: &Self::Item) -> Result<Self::Outcome, AllocError>
         ensures changed { OnOk result (value self.new ≡ after (value self.old) item.now) }
         ensures told { IfOk result (λ told. told ≡ outcome (value self.old) item.now) }

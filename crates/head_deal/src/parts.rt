@@ -7,7 +7,7 @@ ghost use Rattle.head_deal.specs.Entries.{entries};
 ghost use Rattle.head_deal.specs.Holding.{PartStep};
 ghost use Rattle.head_deal.specs.Jobs.{Queued};
 
-use crate::batches::{Batch, batch_of, empty, open_last};
+use crate::batches::{ItemBatch, batch_of, empty, open_last};
 use crate::{Builder, Stepped};
 use std::alloc::{AllocError, Global};
 use std::marker::Model;
@@ -33,7 +33,7 @@ pub struct Part<B: Builder> {
     pub(crate) all_jobs: usize,
     pub(crate) builders: Vec<B>,
     pub(crate) due_count: usize,
-    pub(crate) batches: Vec<Batch<B::Item>>,
+    pub(crate) batches: Vec<ItemBatch<B::Item>>,
     pub(crate) spare: Vec<Vec<Due<B::Item>>>,
     pub(crate) outcomes: Vec<B::Outcome>,
 }
@@ -82,7 +82,7 @@ pub fn run_part<B: Builder>(part: &mut Part<B>) -> Result<(), AllocError>
 
 fn run_dues<B: Builder>(
     builders: &mut Vec<B>,
-    batches: &Vec<Batch<B::Item>>,
+    batches: &Vec<ItemBatch<B::Item>>,
     count: usize,
     outcomes: &mut Vec<B::Outcome>,
     workers: usize,
@@ -124,7 +124,12 @@ fn run_dues<B: Builder>(
 
 impl<B: Builder> Part<B> {
     /// Adds an item for the builder at an element.
-    pub(crate) fn take(&mut self, number: u32, element: u32, item: B::Item) -> Result<(), B::Item>
+    pub(crate) fn enqueue(
+        &mut self,
+        number: u32,
+        element: u32,
+        item: B::Item,
+    ) -> Result<(), B::Item>
         requires { element < length self.old.slots }
         ensures taken { OnOk result (self.new ≡ record self.old { jobs = self.old.jobs ++ record { number = number; slot = self.old.worker + element * self.old.workers; state = Queued item } ∷ [] }) }
         ensures refused { OnErr result (self.new ≡ self.old) }
@@ -159,7 +164,7 @@ impl<B: Builder> Part<B> {
         let Some(count) = self.due_count.checked_add(dues.len()) else {
             return Err(AllocError);
         };
-        self.batches.push(Batch { base, dues })?;
+        self.batches.push(ItemBatch { base, dues })?;
         self.due_count = count;
         Ok(())
     }

@@ -4,7 +4,7 @@ ghost use Rattle.std.specs.Prelude.{◌≡◌, ◌++◌, ◌∷◌, ◌<◌, ◌
 
 use crate::Builder;
 use crate::batches::empty_list;
-use crate::dealing::Deal;
+use crate::dealing::{Deal, MOST_ITEMS};
 use crate::parts::{Due, spare_lists};
 use crate::seats::Seats;
 use std::alloc::{AllocError, Global};
@@ -90,7 +90,7 @@ impl<I: Drop> Spread<I> {
         ensures handed_back { IfErr result (λ i. i ≡ item) }
         ensures refused { OnErr result (self.new ≡ self.old) }
     {
-        if self.count >= 4_294_967_296 {
+        if self.count >= MOST_ITEMS {
             return Err(item);
         }
         let seat = seats.seats[slot as usize];

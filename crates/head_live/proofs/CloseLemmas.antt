@@ -30,7 +30,7 @@ accepted_rows-append a b =
     ap (map (λ x. x.row)) (filter-append (λ x. is_accepted x.verdict) a b)
     ∙ map-append (λ (x : Answer). x.row) (filter (λ x. is_accepted x.verdict) a) (filter (λ x. is_accepted x.verdict) b)
 
--- behind what stands in a list so far
+-- after what is in a list so far
 pub pushed_more : {A : Type 0} (new old : List A) (x : A) (start rows more : List A) → new ≡ old ++ x ∷ [] → old ≡ start ++ rows → more ≡ rows ++ x ∷ [] → new ≡ start ++ more
 pushed_more new old x start rows more e h m = e ∙ (ap (λ r. r ++ x ∷ []) h ∙ (append_assoc start rows (x ∷ []) ∙ ap (λ r. start ++ r) (sym m)))
 

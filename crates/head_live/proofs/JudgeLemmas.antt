@@ -1,4 +1,4 @@
--- What is kept while rows are judged: at the start, behind one row more, and at the end.
+-- What is kept while rows are judged: at the start, after one row more, and at the end.
 use Rattle.std.proofs.Common.{◌≡◌, ◌≢◌, ℕ, zero, suc, ◌+◌, ◌<◌, ◌≤◌, ◌^◌, Bool, true, false, List, [], ◌∷◌, ◌++◌, Option, Some, None, ap, ap₂, sym, subst, ◌∙◌, refl, arith, length, length-append, set, get_or, take, drop}
 use Rattle.std.specs.Prelude.{ℤ, ◌≤ℤ◌, ◌||◌, All, int_le, int_lt, map, nat_lt, if◌then◌else◌}
 use Rattle.std.specs.List.{list_any}

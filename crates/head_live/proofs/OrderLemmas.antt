@@ -91,7 +91,7 @@ placed_exact a b e =
       both Equal p h = (refl, h)
       both Greater p h = absurd cc
 
--- what stands before a sample is not greater
+-- what is before a sample is not greater
 pub before_not_less : (a b : PlacedSample) → IsBefore a b → is_lt (placed_cmp b a) ≡ false
 before_not_less a b (inl slot) = ap (λ o. is_lt (ordering_then o (ordering_then (int_cmp b.time a.time) (int_cmp b.value a.value)))) over where
   over : nat_cmp b.slot a.slot ≡ Greater
@@ -103,7 +103,7 @@ before_not_less a b (inr (slot, time)) = ap₂ (λ o p. is_lt (ordering_then o (
   over : int_cmp b.time a.time ≡ Greater
   over = by_ranked _ _ _ (int_cmp b.time a.time) (int_ranked b.time a.time (int_cmp b.time a.time) refl) (λ _ h. absurd (omega (arith, ints, time, h))) (λ _ h. absurd (omega (arith, ints, time, h))) (λ e _. e)
 
--- samples that are sorted are those that stand in order with the same elements
+-- samples that are sorted are those that are in order with the same elements
 pub one_placed : (xs ys : List PlacedSample) → IsSorted placed_cmp xs → AllPairs IsBefore ys → IsPermutation xs ys → xs ≡ ys
 one_placed xs ys up before same = one_sorted placed_total placed_exact xs ys up (λ i j d lt within. before_not_less (get_or ys i d) (get_or ys j d) (before i j d lt within)) same
 

@@ -29,7 +29,7 @@ Pair = Vec ℕ Global × Vec ℕ Global
 abbrev label_at : Pair → Label
 label_at p = label_of p.0.items p.1.items
 
--- the labels before a pair, its own, and those behind it
+-- the labels before a pair, its own, and those after it
 labels_parted : (pairs : List Pair) (k : ℕ) (pair : Pair) → k < length pairs → pair ≡ get_or pairs k pair → labels_of pairs ≡ labels_of (take k pairs) ++ label_at pair ∷ labels_of (drop (k + 1) pairs)
 labels_parted pairs k pair within is =
     ap labels_of (sym (take-append-drop (k + 1) pairs))
@@ -37,7 +37,7 @@ labels_parted pairs k pair within is =
     ∙ (ap (λ ps. labels_of ps ++ labels_of (drop (k + 1) pairs)) (take_more pairs k pair within ∙ ap (λ p. take k pairs ++ p ∷ []) (sym is))
     ∙ (ap (λ ls. ls ++ labels_of (drop (k + 1) pairs)) (map-append label_at (take k pairs) (pair ∷ [])) ∙ append_assoc (labels_of (take k pairs)) (label_at pair ∷ []) (labels_of (drop (k + 1) pairs)))))
 
--- a label that cannot stand behind those before it
+-- a label that cannot stand after those before it
 pub label_refused : (pairs : List Pair) (k : ℕ) (pair : Pair) (name : List ℕ) (front : Labels) (fault : LabelFault) → k < length pairs → pair ≡ get_or pairs k pair → name ≡ pair.0.items
     → front ≡ labels_of (take k pairs) → IsLabelSet front → (fault ≡ label.EmptyName → length name ≡ 0) → (fault ≡ label.NotAscending → (0 < length name) × (IsNext front name → ⊥))
     → IsRefusedSet (labels_of pairs) fault

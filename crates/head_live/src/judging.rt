@@ -3,7 +3,6 @@
 ghost use Rattle.std.specs.Prelude.{◌≡◌, ◌⊎◌, ◌++◌, ◌∷◌, [], Err, IfErr, IfOk, None, OnOk, Some, false, map};
 ghost use Rattle.hw_bytes.specs.Lists.{or_else};
 ghost use Rattle.wal_record.specs.Labels.{same_labels};
-ghost use Rattle.head_column.specs.Times.{reaches};
 ghost use Rattle.head_series.specs.Rows.{AreDistinct};
 ghost use Rattle.head_live.specs.Batch.{AreSpent, is_missing};
 ghost use Rattle.head_live.specs.Verdicts.{verdicts};
@@ -12,6 +11,7 @@ ghost use Rattle.head_live.specs.Judged.{AreStarts, IsBatch, IsStart, entry_afte
 use crate::fault::AppendFault;
 use crate::prepared::{Prepared, PreparedRow};
 use crate::verdict::Verdict;
+use head_column::reaches;
 use head_core::Head;
 use std::alloc::{AllocError, Global};
 use std::sync::Arc;
@@ -83,16 +83,6 @@ fn next_reference_of(next: &mut Option<u64>) -> Option<u64>
     taken
 }
 
-/// Returns whether a series whose greatest time is `last` has a sample at or past `time`.
-pub fn is_reached(last: Option<i64>, time: i64) -> bool
-    ensures { result ≡ reaches last time }
-{
-    match last {
-        None => false,
-        Some(last) => time <= last,
-    }
-}
-
 impl Judged {
     // Returns the reference of a label set with an accepted row. A label set with none gets the next one and becomes a new series.
     fn reference(
@@ -126,7 +116,7 @@ impl Judged {
     }
 
     // Judges the next row: adds its verdict, and its sample if it is accepted. An expired row changes nothing else.
-    fn take(
+    fn judge_row(
         &mut self,
         min_valid: i64,
         standing: &mut Standing,
@@ -147,7 +137,7 @@ impl Judged {
             self.verdicts.push(Verdict::Expired)?;
             return Ok(());
         }
-        if is_reached(standing.last, row.time) {
+        if reaches(standing.last, row.time) {
             self.verdicts.push(Verdict::Stale)?;
             return Ok(());
         }
@@ -184,7 +174,7 @@ pub fn judge(alloc: Global, head: &Head, rows: &Prepared) -> Result<Judged, Appe
     };
     for row in &rows.rows {
         let labels = &rows.sets[row.set];
-        judged.take(min_valid, &mut standings[row.set], &mut next, labels, row)?;
+        judged.judge_row(min_valid, &mut standings[row.set], &mut next, labels, row)?;
     }
     Ok(judged)
 }

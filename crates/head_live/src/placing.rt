@@ -11,10 +11,10 @@ ghost use Rattle.head_live.specs.Placed.{IsBefore, placed};
 ghost use Rattle.head_live.specs.Placing.{AreInSeries, IsPossible, row_at, sample_counts};
 ghost use Rattle.head_live.specs.Told.{accepted_rows, answer_of};
 
-use crate::judging::is_reached;
 use crate::placed::PlacedSample;
 use crate::told::Told;
 use crate::verdict::Verdict;
+use head_column::reaches;
 use head_core::{Head, Slot};
 use std::alloc::{AllocError, Global};
 
@@ -43,7 +43,7 @@ fn place_row(head: &Head, row: &Told, accepted: &mut Vec<PlacedSample>) -> Resul
             Ok(true)
         }
         Verdict::Stale => match head.find(&row.labels) {
-            Some(slot) => Ok(is_reached(head.last_time(slot), row.time)),
+            Some(slot) => Ok(reaches(head.last_time(slot), row.time)),
             None => Ok(false),
         },
         Verdict::Expired => Ok(row.time < head.min_valid()),

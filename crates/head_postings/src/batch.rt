@@ -13,22 +13,22 @@ use wal_record::LabelSet;
 
 /// Counts of the label sets of the series that a batch adds, by label: how many slots each list will take.
 #[derive(Debug)]
-pub struct Batch {
+pub struct PostingsBatch {
     many: usize,
     names: Names,
 }
 
 // Written out, so that a function that drops one has a call in its proof, and not a copy of this body.
-impl Drop for Batch {
+impl Drop for PostingsBatch {
     fn drop(self) {
-        let Batch {
+        let PostingsBatch {
             many: _,
             names: _names,
         } = self;
     }
 }
 
-impl Model for Batch {
+impl Model for PostingsBatch {
     ghost use Rattle.head_postings.specs.Room.{Counted};
 
     ghost Value = { Counted };
@@ -36,12 +36,12 @@ impl Model for Batch {
     ghost view = { λ b. record { many = b.many; names = b.names.slots } };
 }
 
-impl Batch {
+impl PostingsBatch {
     // Makes a batch of no label sets, with hashes by the seed.
-    pub(crate) fn new(alloc: Global, seed: HashSeed) -> Batch
+    pub(crate) fn new(alloc: Global, seed: HashSeed) -> PostingsBatch
         ensures { IsCountOf [] result }
     {
-        Batch {
+        PostingsBatch {
             many: 0,
             names: Names::new(alloc, seed),
         }

@@ -11,6 +11,6 @@ mod postings;
 mod union;
 mod values;
 
-pub use batch::Batch;
+pub use batch::PostingsBatch;
 pub use laws::{one_postings, one_union, room_for_first, room_for_rest};
 pub use postings::Postings;

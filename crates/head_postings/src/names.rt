@@ -92,7 +92,7 @@ impl Names {
     }
 
     // Removes the last slot of each of the first `many` labels.
-    fn take_back(&mut self, labels: &LabelSet, many: usize)
+    fn pop_each(&mut self, labels: &LabelSet, many: usize)
         requires { many ≤ length labels.now }
         ensures { (s : ℕ) (n v before : List ℕ) → slots_of self.old.slots n v ≡ before ++ given s (take many labels.now) n v → slots_of self.new.slots n v ≡ before }
     {
@@ -115,7 +115,7 @@ impl Names {
             match self.push(name, value, slot) {
                 Ok(()) => {}
                 Err(error) => {
-                    self.take_back(labels, i);
+                    self.pop_each(labels, i);
                     return Err(error);
                 }
             }

@@ -5,7 +5,7 @@ ghost use Rattle.head_postings.specs.Postings.{holds, selected, AreAlike, AreMer
 ghost use Rattle.head_postings.specs.Room.{HasRoom, IsReserved};
 ghost use Rattle.head_postings.specs.Slots.{AreBelow, IsAscending};
 
-use crate::batch::Batch;
+use crate::batch::PostingsBatch;
 use crate::names::Names;
 use crate::union::united;
 use hash_seed::HashSeed;
@@ -87,15 +87,19 @@ impl Postings {
     }
 
     /// Makes a batch of no label sets.
-    pub fn batch(&self) -> Batch
+    pub fn batch(&self) -> PostingsBatch
         ensures { IsReserved self.now [] result }
     {
-        Batch::new(*self.all.allocator(), self.names.seed())
+        PostingsBatch::new(*self.all.allocator(), self.names.seed())
     }
 
     /// Adds a label set to a batch, and allocates memory for one slot for each label set of the batch. Every list is unchanged.
     /// Returns an error if out of memory; the batch must not be used afterwards.
-    pub fn make_room(&mut self, batch: &mut Batch, labels: &LabelSet) -> Result<(), AllocError>
+    pub fn make_room(
+        &mut self,
+        batch: &mut PostingsBatch,
+        labels: &LabelSet,
+    ) -> Result<(), AllocError>
         ensures kept { AreAlike self.old self.new }
         ensures room { (sets : List Labels) → IsReserved self.old sets batch.old → OnOk result (IsReserved self.new (sets ++ labels.now ∷ []) batch.new) }
     {

@@ -1,4 +1,4 @@
--- From the series of a head, one after another, to what is told of it.
+-- From the series of a head, one after another, to what is reported of it.
 use Rattle.std.proofs.Common.{◌≡◌, ℕ, zero, suc, ◌+◌, ◌<◌, ◌≤◌, false, cond, List, [], ◌∷◌, ◌++◌, length, map, take, refl, sym, ap, subst, ◌∙◌, arith}
 use Rattle.std.specs.Prelude.{count_by, slice_get, slice_index_or, sum_by, unwrap_or, zip}
 use Rattle.std.proofs.lemmas.List.{append-nil, take_all}

@@ -10,7 +10,7 @@ ghost use Rattle.head_ranks.specs.Counts.{has_label, label_of};
 ghost use Rattle.head_ranks.specs.Counting.{IsCountOf};
 ghost use Rattle.head_ranks.specs.Ranks.{AreLabelCounts};
 
-use crate::counts::{LabelCount, Totals};
+use crate::counts::{HeadTotals, LabelCount};
 use hash_seed::HashSeed;
 use head_core::Head;
 use indexmap::IndexSet;
@@ -154,7 +154,7 @@ pub fn label_counts<'a>(alloc: Global, head: &'a Head) -> Result<Vec<LabelCount<
 }
 
 /// Returns the number of a head's series, and the number of their accepted samples. Returns an error if that does not fit.
-pub fn totals(head: &Head) -> Result<Totals, AllocError>
+pub fn totals(head: &Head) -> Result<HeadTotals, AllocError>
     requires { head.now.failed ≡ false }
     ensures series { IfOk result (λ totals. totals.series ≡ length head.now.content.table.series) }
     ensures samples { IfOk result (λ totals. totals.samples ≡ sum_by (λ h. length h.samples) head.now.content.histories) }
@@ -165,7 +165,7 @@ pub fn totals(head: &Head) -> Result<Totals, AllocError>
         let more = head.sample_count(Slot::new(number)) as u64;
         samples = samples.checked_add(more).ok_or(AllocError)?;
     }
-    Ok(Totals {
+    Ok(HeadTotals {
         series: series as u64,
         samples,
     })

@@ -17,7 +17,7 @@ pub struct LabelCount<'a> {
 
 /// How much there is in a head.
 #[derive(Clone, Copy, Debug, PartialEq, Eq)]
-pub struct Totals {
+pub struct HeadTotals {
     pub series: u64,
     /// The number of the accepted samples of all series.
     pub samples: u64,

@@ -11,6 +11,6 @@ mod naming;
 mod ranking;
 
 pub use counting::{label_counts, totals};
-pub use counts::{LabelCount, NameCount, Totals};
+pub use counts::{HeadTotals, LabelCount, NameCount};
 pub use naming::{metrics, name_counts};
 pub use ranking::{rank_by_samples, rank_by_series, rank_names};

@@ -163,11 +163,11 @@ kept_of_both p q r (x ∷ xs) h test =
     ∙ ap (λ z. z || ((q x && test x) || list_any test (filter q xs))) (sym (any_kept test (p x) x (filter p xs)))
     ∙ ap (λ z. list_any test (cond (p x) (x ∷ filter p xs) (filter p xs)) || z) (sym (any_kept test (q x) x (filter q xs)))
 
--- the slots of two runs of workers, one behind the other
+-- the slots of two runs of workers, one after the other
 pub merged : (workers a b c : ℕ) (ls : List Labels) → a ≤ b → b ≤ c → IsMergeOf (belonging workers a b (by_slot ls)) (belonging workers b c (by_slot ls)) (belonging workers a c (by_slot ls))
 merged workers a b c ls h k = record { ascending = ascending_from _ 0 ls; of_both = kept_of_both _ _ _ (by_slot ls) (λ s. either_one (s.0 % workers) a b c h k) }
 
--- one more with its number, the first of them, and those behind
+-- one more with its number, the first of them, and those after
 pub numbered_push : {J : Type 0} (P : ℕ → J → Type 0) (first : ℕ) (js : List J) (j : J) → AreNumbered P first js → P (first + length js) j → AreNumbered P first (js ++ j ∷ [])
 numbered_push P first [] j h k = let e : first + 0 ≡ first = omega arith in (subst (λ n. P n j) e k, tt)
 numbered_push P first (i ∷ js) j h k = let e : first + suc (length js) ≡ first + 1 + length js = omega arith in (h.0, numbered_push P (first + 1) js j h.1 (subst (λ n. P n j) e k))

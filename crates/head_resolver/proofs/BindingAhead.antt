@@ -95,7 +95,7 @@ none_in_stones (x ∷ xs) = none_in_stones xs
 
 -- ---- one record more of the window
 
--- what the places of some records say of the bindings behind others
+-- what the places of some records say of the bindings after others
 placed_alike : (es : List Entry) (rs : List WalRecord) → bindings (es ++ entries_of rs) ≡ bindings (es ++ entries_at (placed_series 0 rs))
 placed_alike es rs = bindings_append es (entries_of rs) ∙ ap (λ bs. bindings es ++ bs) (sym (placed_bind 0 rs)) ∙ sym (bindings_append es (entries_at (placed_series 0 rs)))
 

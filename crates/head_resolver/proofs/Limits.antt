@@ -51,7 +51,7 @@ fates_front f es more =
     let k = ap (count_by (is_fate f)) (along-append (λ before e. fate_at before e ∷ []) es more) ∙ sum_by-append (λ g. cond (is_fate f g) 1 0) (fates es) (along (λ before e. fate_at (es ++ before) e ∷ []) more) in
     omega (arith, k)
 
--- the series that more entries bind, behind those that were bound
+-- the series that more entries bind, after those that were bound
 abbrev pub later_series : List Entry → List Entry → List Labels
 later_series es more = along (λ before. if_new same_labels (label_sets (bindings es) ++ before)) (label_sets (bindings more))
 

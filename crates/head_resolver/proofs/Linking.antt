@@ -291,7 +291,7 @@ last_here cs j d r at is =
     let many : length (take j cs) ≡ j = take_length j cs (slice_get_within cs j d at) in
     ap (λ ds. last_of ds r) (take_one cs j d at) ∙ last_more (take j cs) d r ∙ ap (λ b. if b then length (take j cs) + 1 else last_of (take j cs) r) here ∙ ap (λ n. n + 1) many ∙ add-one j
 
--- a change that is found hides all behind it
+-- a change that is found hides all after it
 match_upto : (cs : List Change) (j k p r : ℕ) (d : Change) (f g : ℕ → Option ℕ) → slice_get cs j ≡ Some d → d.reference ≡ r → p ≤ d.place → j < k → slot_before (take k cs) f p r ≡ slot_before (take (suc j) cs) g p r
 match_upto [] j k p r d f g at is low h = cc
 match_upto (x ∷ cs) zero zero p r d f g at is low h = absurd (omega arith)
@@ -337,7 +337,7 @@ walk_jump cs after p r next k j found o d w e low same at match =
           ∙ w.found_is;
     }
 
--- the places come in order, so no earlier change is at the place or behind it
+-- the places come in order, so no earlier change is at the place or after it
 pub walk_stop : (cs : List Change) (after : ℕ → Option ℕ) (p r next k : ℕ) (found : Option ℕ) (c : Change) → IsWalk cs after p r next found → next ≡ suc k → slice_get cs k ≡ Some c → c.place < p → AreInOrder cs → found ≡ slot_before cs after p r
 walk_stop cs after p r next k found c w e at low order =
     let here = subst (IsFound (take w.upto cs) (λ q. found) p r) (sym w.next_is ∙ e) (found_last p r (take w.upto cs) (λ q. found)) in

@@ -65,7 +65,7 @@ with_told_is base n unknown_stone = refl
 pub told_more : (base : Counts) (es : List Entry) (e : Entry) → counts_at base (told_alone (tally (es ++ e ∷ []))) ≡ with_told (fate_at es e) (counts_at base (told_alone (tally es)))
 told_more base es e = ap (λ n. counts_at base (told_alone n)) (tally_more es e) ∙ with_told_is base (tally es) (fate_at es e)
 
--- an outcome is told by a column
+-- an outcome is reported by a column
 pub by_column : (o : Outcome) (c : Counts) → with_told (fate_of o) c ≡ c
 by_column outcome.Accepted c = refl
 by_column outcome.Stale c = refl
@@ -167,7 +167,7 @@ module _ {t : Taken} {v : ResolverValue} (h : IsResolved t v) (r : WalRecord) wh
   record_stopped (inr (inl o)) w = let few = w.counts.expired_samples in let is = ap (λ (n : Counts). n.expired_samples) h.counted in omega (arith, few, is, o)
   record_stopped (inr (inr o)) w = let few = w.counts.expired_stones in let is = ap (λ (n : Counts). n.expired_stones) h.counted in omega (arith, few, is, o)
 
--- What was read is followed by an entry that is over a limit: nothing that was taken with these entries, and whatever is behind them, is
+-- What was read is followed by an entry that is over a limit: nothing that was taken with these entries, and whatever is after them, is
 -- within the limits.
 module _ (base : Counts) {es : List Entry} {m : ResolverValue} (h : IsToldBy base es m) (e : Entry) (more_entries : List Entry) (t : Taken) (are : entries_of t.kept ≡ es ++ e ∷ more_entries) (w : IsResolvable t) where
   split : entries_of t.kept ≡ (es ++ e ∷ []) ++ more_entries

@@ -20,7 +20,7 @@ use Rattle.head_resolver.proofs.Known.{is_bound-series_of, label_sets, owner_is_
 use Rattle.head_resolver.proofs.Lists.{AreApart, AreApart-distinct, not_at, same_sym_false}
 use Rattle.head_resolver.proofs.Limits.{later_series, series_split}
 
--- a place is the same where more stands behind
+-- a place is the same where more is after
 pub place_front : {A : Type 0} (p : A → Bool) (xs ys : List A) → list_any p xs ≡ true → place p (xs ++ ys) ≡ place p xs
 place_front p [] ys h = cc
 place_front p (x ∷ xs) ys h = at (p x) h (place_front p xs ys) where
@@ -84,7 +84,7 @@ place_at (m ∷ ls) (suc s) l d e =
     ∙ ap (option_map (λ n. n + 1)) (place_at ls s l d.1 e)
     ∙ ap Some (omega arith)
 
--- what stands at the first place of an element is it
+-- what is at the first place of an element is it
 pub there : (ls : List Labels) (m : Labels) (s : ℕ) → place (same_labels m) ls ≡ Some s → slice_get ls s ≡ Some m
 there [] m s e = cc
 there (x ∷ ls) m s e = by (same_labels m x) refl e (there ls m) where
@@ -95,7 +95,7 @@ there (x ∷ ls) m s e = by (same_labels m x) refl e (there ls m) where
     at None p j = cc
     at (Some n) p j = let z : n + 1 ≡ s = cc in subst (λ i. slice_get (x ∷ ls) i ≡ Some m) (let y : suc n ≡ s = omega (arith, z) in y) (rest n p)
 
--- of items with the places of their owners, those at one place are those of the label set that stands there
+-- of items with the places of their owners, those at one place are those of the label set that is there
 at_slot : (ls : List Labels) (s : ℕ) (l : Labels) → AreApart same_labels labels_same ls → slice_get ls s ≡ Some l
     → (rs : List (ℕ × Item)) (ks : List (Labels × Item)) → map with_some rs ≡ map (with_place ls) ks → map (λ k. k.1) (filter (λ k. nat_eq s k.0) rs) ≡ map (λ k. k.1) (filter (λ k. same_labels l k.0) ks)
 at_slot ls s l d e [] [] h = refl

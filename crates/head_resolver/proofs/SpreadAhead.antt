@@ -41,7 +41,7 @@ use Rattle.head_resolver.proofs.Validity.{bindings_valid}
 use Rattle.head_resolver.proofs.Whole.{taken_with-push}
 use Rattle.head_resolver.proofs.Windows.{at_place, same_slots, table_slots}
 
--- ---- one entry, by the slots behind those before it
+-- ---- one entry, by the slots after those before it
 
 module _ (es : List Entry) where
   item_told : (r : ℕ) (i : Item) (c : Counts) → with_item (slot_behind es r) i c ≡ with_told (item_fate es (owner es r) i) c
@@ -54,13 +54,13 @@ module _ (es : List Entry) where
     by None e = sym (by_none i c)
     by (Some l) e = at l (is_bound-series_of (bindings es) l ∙ owner_is_bound (bindings es) r l e) (place (same_labels l) (series_of (bindings es))) refl
 
--- the entry's reference has its slot behind these entries
+-- the entry's reference has its slot after these entries
 abbrev Sees : (ℕ → Option ℕ) → List Entry → Entry → Type 0
 Sees slots es (series e) = Unit {0}
 Sees slots es (sample s) = slots s.reference ≡ slot_behind es s.reference
 Sees slots es (stone d) = slots d.reference ≡ slot_behind es d.reference
 
--- so does each entry behind those before it
+-- so does each entry after those before it
 abbrev pub SeeAll : (ℕ → Option ℕ) → List Entry → List Entry → Type 0
 SeeAll slots es [] = Unit {0}
 SeeAll slots es (e ∷ fs) = Sees slots es e × SeeAll slots (es ++ e ∷ []) fs
@@ -200,7 +200,7 @@ pub within_before : (slots : ℕ → Option ℕ) (es : List Entry) (c : Counts) 
 within_before slots es c w =
     (within_sum c (fold (counts_with slots) no_counts es) (subst AreCountsWithin (ap (λ k. fold (counts_with slots) k es) (sym (plus_none c)) ∙ plus_all slots es c no_counts) w)).0
 
--- ---- records behind others
+-- ---- records after others
 
 counts_both : (m : ℤ) (slots : ℕ → ℕ → Option ℕ) (n : ℕ) (rs qs : List WalRecord) (c : Counts) → counts_from m slots n (rs ++ qs) c ≡ counts_from m slots (n + length rs) qs (counts_from m slots n rs c)
 counts_both m slots n [] qs c = ap (λ k. counts_from m slots k qs c) (sym (add-zero n))
@@ -252,7 +252,7 @@ module _ (t : Taken) (front back : List WalRecord) (cs : List Change) (v : Resol
       (table_slots (entries_of t.kept ++ entries_of (front ++ back)) v.table r h.shown ∙ ap (λ rs. slot_behind (entries_of t.kept ++ entries_of rs) r) split)
       refl
 
-  -- the slots at a place are those behind what is kept of the records before it
+  -- the slots at a place are those after what is kept of the records before it
   pub ahead_places : (qs ps : List WalRecord) → front ++ back ≡ qs ++ ps → (r : ℕ) → slot_before cs (slot_at v.table) (length qs) r ≡ slot_behind (entries_of (taken_with v.min_valid t qs).kept) r
   ahead_places qs ps split r = ahead_slots qs ps split r ∙ same_slots (entries_of t.kept ++ entries_of qs) (entries_of (taken_with v.min_valid t qs).kept) r (sym (kept_bind v.min_valid t qs))
 

@@ -25,7 +25,7 @@ use Rattle.head_resolver.proofs.Known.{is_bound-series_of, owner_is_bound}
 use Rattle.head_resolver.proofs.Limits.{later_series, series_split}
 use Rattle.head_resolver.proofs.Slots.{place_front}
 
--- ---- slots behind entries
+-- ---- slots after entries
 
 -- only bindings move a slot
 pub same_slots : (es fs : List Entry) (r : ℕ) → bindings es ≡ bindings fs → slot_behind es r ≡ slot_behind fs r
@@ -60,7 +60,7 @@ other_slot es e r other =
 abbrev pub entries_at : List (ℕ × SeriesEntry) → List Entry
 entries_at ds = map (λ d. series d.1) ds
 
--- all places are at p or behind it
+-- all places are at p or after it
 abbrev AreFrom : ℕ → List (ℕ × SeriesEntry) → Type 0
 AreFrom p [] = Unit {0}
 AreFrom p (d ∷ ds) = (p ≤ d.0) × AreFrom p ds
@@ -94,7 +94,7 @@ places_before : (p n : ℕ) (rs : List WalRecord) → n + length rs ≤ p → Ar
 places_before p n [] h = tt
 places_before p n (r ∷ rs) h = before_both p (map (λ e. (n, e)) (flat_map series_in (entries_in r))) (placed_series (n + 1) rs) (before_one p n (flat_map series_in (entries_in r)) (omega arith)) (places_before p (n + 1) rs (omega arith))
 
--- records behind others
+-- records after others
 pub placed_both : (n : ℕ) (rs qs : List WalRecord) → placed_series n (rs ++ qs) ≡ placed_series n rs ++ placed_series (n + length rs) qs
 placed_both n [] qs = ap (λ k. placed_series k qs) (sym (add-zero n))
 placed_both n (r ∷ rs) qs =
@@ -156,7 +156,7 @@ pass_front es (d ∷ ds) cs after p r h =
     pass true x y = refl
     pass false x y = refl
 
--- the first of the reference that is at the place or behind it says what the reference named there
+-- the first of the reference that is at the place or after it says what the reference named there
 find_behind : (es : List Entry) (ds : List (ℕ × SeriesEntry)) (after : ℕ → Option ℕ) (p r : ℕ) → AreFrom p ds → after r ≡ slot_behind (es ++ entries_at ds) r → slot_before (changes_of es ds) after p r ≡ slot_behind es r
 find_behind es [] after p r h a = a ∙ ap (λ fs. slot_behind fs r) (append_none es)
 find_behind es (d ∷ ds) after p r h a =
@@ -170,7 +170,7 @@ find_behind es (d ∷ ds) after p r h a =
     at true rest e found = ap (slot_behind es) (eqb-true d.1.reference r e)
     at false rest e found = found ∙ other_slot es d.1 r e
 
--- behind the first records of a window
+-- after the first records of a window
 pub at_place : (es : List Entry) (front back : List WalRecord) (after : ℕ → Option ℕ) (p r : ℕ) → after r ≡ slot_behind (es ++ entries_of (front ++ back)) r → p ≡ length front
     → slot_before (changes_of es (placed_series 0 (front ++ back))) after p r ≡ slot_behind (es ++ entries_of front) r
 at_place es front back after p r a is =

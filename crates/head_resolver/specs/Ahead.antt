@@ -52,7 +52,7 @@ pub record AreSpreadAt (m : ℤ) (slots : ℕ → ℕ → Option ℕ) (n : ℕ) 
   pub items_are : items ≡ items_from m slots n rs
   pub counts_are : c ≡ counts_from m slots n rs no_counts
 
--- A window of records comes behind what was taken of a log: first those in `front`, which were taken too, and then those in `back`, of
+-- A window of records comes after what was taken of a log: first those in `front`, which were taken too, and then those in `back`, of
 -- which only the bindings were made. The places of the window begin at 0; the changes are those of all its series entries, in order.
 pub record IsAhead (t : Taken) (front back : List WalRecord) (cs : List Change) (v : ResolverValue) : Type 0 where
   pub shown : IsTableOf (bindings (entries_of t.kept ++ entries_of (front ++ back))) v.table

@@ -13,7 +13,7 @@ pub record Change : Type 0 where
   pub place : ℕ
   pub before : Option ℕ
 
--- The slot of a reference at a place of a window: what it was before the first change of the reference at the place or behind it, or else
+-- The slot of a reference at a place of a window: what it was before the first change of the reference at the place or after it, or else
 -- what it is after all changes.
 abbrev pub slot_before : List Change → (ℕ → Option ℕ) → ℕ → ℕ → Option ℕ
 slot_before [] after p r = after r
@@ -24,7 +24,7 @@ abbrev pub placed_series : ℕ → List WalRecord → List (ℕ × SeriesEntry)
 placed_series n [] = []
 placed_series n (r ∷ rs) = map (λ e. (n, e)) (flat_map series_in (entries_in r)) ++ placed_series (n + 1) rs
 
--- the changes that series entries make, one after another, behind the entries es
+-- the changes that series entries make, one after another, after the entries es
 abbrev pub changes_of : List Entry → List (ℕ × SeriesEntry) → List Change
 changes_of es [] = []
 changes_of es (d ∷ ds) = record { reference = d.1.reference; place = d.0; before = slot_behind es d.1.reference } ∷ changes_of (es ++ series d.1 ∷ []) ds

@@ -64,12 +64,12 @@ abbrev pub unknown_fate : Item → Fate
 unknown_fate (item.Sample s) = unknown
 unknown_fate (item.Stone r) = unknown_stone
 
--- what becomes of an item behind these entries, with the owner of its reference, if it has one
+-- what becomes of an item after these entries, with the owner of its reference, if it has one
 abbrev pub item_fate : List Entry → Option Labels → Item → Fate
 item_fate before None i = unknown_fate i
 item_fate before (Some l) i = fate_of (outcome_of (items_of l before) i)
 
--- what becomes of an entry behind these entries
+-- what becomes of an entry after these entries
 abbrev pub fate_at : List Entry → Entry → Fate
 fate_at before (series e) = bound
 fate_at before (sample s) = item_fate before (owner before s.reference) (sample_item s)

@@ -15,6 +15,6 @@ binding (stone d) = []
 abbrev pub bindings : List Entry → List Binding
 bindings es = flat_map binding es
 
--- The owner of a reference behind these entries: the labels of the last series entry for it, or none.
+-- The owner of a reference after these entries: the labels of the last series entry for it, or none.
 abbrev pub owner : List Entry → ℕ → Option Labels
 owner es r = owner_of (bindings es) r

@@ -55,7 +55,7 @@ IsOverTable t (series e) = IsFull t e.labels
 IsOverTable t (sample s) = ⊥
 IsOverTable t (stone d) = ⊥
 
--- the table after an entry: whatever bindings it shows, with what the entry binds behind them
+-- the table after an entry: whatever bindings it shows, with what the entry binds after them
 abbrev pub IsTableAfter : Table → Entry → Table → Type 0
 IsTableAfter t (series e) u = (bs : List Binding) → IsTableOf bs t → IsTableOf (bs ++ binding (series e)) u
 IsTableAfter t (sample s) u = u ≡ t

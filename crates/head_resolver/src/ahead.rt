@@ -20,7 +20,7 @@ ghost use Rattle.head_resolver.specs.Ahead.{counts_with, items_with, AreFew, Are
 
 use crate::changes::Changes;
 use crate::counts::Counts;
-use crate::fault::HeadFault;
+use crate::fault::{CountFull, HeadFault};
 use crate::items::{ItemEntry, expired_in};
 use crate::resolver::Resolver;
 use head_column::Item;
@@ -49,7 +49,7 @@ fn put_item(
             Ok(()) => Ok(()),
             Err(_) => Err(HeadFault::Memory),
         },
-        None => counts.add_unknown(&item),
+        None => Ok(counts.add_unknown(&item)?),
     }
 }
 
@@ -217,7 +217,10 @@ impl Resolver {
         ensures fault { result ≡ Err HeadFault.Failed → ⊥ }
     {
         match log_record {
-            WalRecord::Series(entries) => counts.add_bound(entries.len()),
+            WalRecord::Series(entries) => {
+                counts.add_bound(entries.len())?;
+                Ok(())
+            }
             WalRecord::Samples(entries) => {
                 self.spread_all_at(entries.as_slice(), place, changes, seats, spread, counts)
             }
@@ -229,10 +232,9 @@ impl Resolver {
     }
 
     // Counts a record by its type, and its expired entries.
-    fn count_in(&self, log_record: &WalRecord, counts: &mut Counts) -> Result<(), HeadFault>
+    fn count_in(&self, log_record: &WalRecord, counts: &mut Counts) -> Result<(), CountFull>
         ensures more { OnOk result (counts.new ≡ with_expired self.now.min_valid log_record.now (with_record log_record.now counts.old)) }
-        ensures full { result ≡ Err HeadFault.Full → AreCountsWithin (with_expired self.now.min_valid log_record.now (with_record log_record.now counts.old)) → ⊥ }
-        ensures fault { result ≡ Err HeadFault.Failed → ⊥ }
+        ensures full { OnErr result (AreCountsWithin (with_expired self.now.min_valid log_record.now (with_record log_record.now counts.old)) → ⊥) }
     {
         counts.add_record(log_record)?;
         let (samples, stones) = expired_in(log_record, self.min_valid());
@@ -318,10 +320,16 @@ impl Resolver {
         if self.failed {
             return Err(HeadFault::Failed);
         }
-        let added = self.add_counts(counts);
-        self.failed = added.is_err();
-        // gives the proof that nothing passes a limit
-        self.limits();
-        added
+        match self.add_counts(counts) {
+            Ok(()) => {
+                // gives the proof that nothing passes a limit
+                self.limits();
+                Ok(())
+            }
+            Err(CountFull) => {
+                self.failed = true;
+                Err(HeadFault::Full)
+            }
+        }
     }
 }

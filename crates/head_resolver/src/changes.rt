@@ -15,7 +15,7 @@ use std::marker::Model;
 // their numbers from 1, or 0 if there is none: the last one, and one to jump to, so that few steps lead to any of them; and how many changes
 // of the reference there are up to this one.
 #[derive(Clone, Copy, Debug)]
-struct Note {
+struct ChangeEntry {
     reference: u64,
     place: u64,
     before: Option<Slot>,
@@ -28,7 +28,7 @@ struct Note {
 /// reference named before. Contracts see a list of changes.
 #[derive(Debug)]
 pub struct Changes {
-    notes: Vec<Note>,
+    notes: Vec<ChangeEntry>,
     lasts: IndexMap<u64, usize, HashSeed>,
     // false only if a change was added at a place before that of an earlier one
     in_order: bool,
@@ -116,7 +116,7 @@ impl Changes {
         if near == far { middle.jump } else { previous }
     }
 
-    // Returns whether no change is at a place behind this one.
+    // Returns whether no change is at a place after this one.
     fn is_last(&self, place: u64) -> bool
         ensures { result ≡ true → (c : Change) → c.place ≡ place → AreInOrder (self.now ++ c ∷ []) }
     {
@@ -129,7 +129,7 @@ impl Changes {
         }
     }
 
-    // Adds a change behind the others.
+    // Adds a change after the others.
     pub(crate) fn push(
         &mut self,
         reference: u64,
@@ -144,7 +144,7 @@ impl Changes {
         let in_order = self.is_last(place);
         self.notes.reserve(1)?;
         self.lasts.insert(reference, self.notes.len() + 1)?;
-        self.notes.push_reserved(Note {
+        self.notes.push_reserved(ChangeEntry {
             reference,
             place,
             before,
@@ -156,7 +156,7 @@ impl Changes {
         Ok(())
     }
 
-    // Returns whether the change of this number, if there is one, is at a place or behind it.
+    // Returns whether the change of this number, if there is one, is at a place or after it.
     fn is_at(&self, number: usize, place: u64) -> bool
         ensures { result ≡ true → (d : Change) × (0 < number) × (slice_get self.now (number - 1) ≡ Some d) × (place ≤ d.place) }
     {

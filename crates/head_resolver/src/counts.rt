@@ -1,6 +1,6 @@
 //! The counts of records and of entries, by kind.
 
-ghost use Rattle.std.specs.Prelude.{◌≡◌, ◌↔◌, ◌⊎◌, ◌+◌, ◌<◌, ◌≤◌, [], All, Err, None, IfOk, IfSome, IsOk, IsTrue, OnErr, OnOk, length};
+ghost use Rattle.std.specs.Prelude.{◌≡◌, ◌↔◌, ◌⊎◌, ◌+◌, ◌<◌, ◌≤◌, [], All, Err, None, IfOk, IfSome, IsErr, IsOk, IsTrue, OnErr, OnOk, length};
 ghost use Rattle.wal_record.specs.declared.record.WalRecord.TheVariants.{Samples};
 ghost use Rattle.wal_record.specs.Entries.{entries_in, entries_of};
 ghost use Rattle.head_resolver.specs.Limits.{AreCountsWithin, count_limit};
@@ -8,7 +8,7 @@ ghost use Rattle.head_resolver.specs.Counts.{count_of_class, fate_of, unknown_fa
 ghost use Rattle.head_resolver.specs.Room.{HaveClasses, HaveCounts, HaveExpired};
 ghost use Rattle.head_resolver.specs.Steps.{count_of_fate, no_counts, plus, with_expired, with_fate, with_record, IsExpiredOver};
 
-use crate::fault::HeadFault;
+use crate::fault::CountFull;
 use crate::items::count_expired;
 use head_column::{Item, Outcome};
 use wal_record::{SampleEntry, WalRecord};
@@ -33,33 +33,29 @@ pub struct Counts {
 }
 
 // Adds 1 to a count, or returns `Full` if it is 2^64 - 1.
-pub(crate) fn one_more(count: &mut u64) -> Result<(), HeadFault>
+pub(crate) fn one_more(count: &mut u64) -> Result<(), CountFull>
     ensures more { OnOk result (count.new ≡ count.old + 1) }
     ensures full { OnErr result ((count.old ≡ count_limit) × (count.new ≡ count.old)) }
-    ensures limit { count.old ≡ count_limit → result ≡ Err HeadFault.Full }
+    ensures limit { count.old ≡ count_limit → IsErr result }
     ensures few { count.old < count_limit → IsOk result }
-    ensures fault { result ≡ Err HeadFault.Memory → ⊥ }
-    ensures sound { result ≡ Err HeadFault.Failed → ⊥ }
 {
     match count.checked_add(1) {
         Some(more) => {
             *count = more;
             Ok(())
         }
-        None => Err(HeadFault::Full),
+        None => Err(CountFull),
     }
 }
 
-// Returns the sum of a count and a number, or `Full` if it does not fit in 64 bits.
-fn sum(count: u64, more: u64) -> Result<u64, HeadFault>
+// Returns the sum of a count and a number, or an error if it does not fit in 64 bits.
+fn sum(count: u64, more: u64) -> Result<u64, CountFull>
     ensures sum { IfOk result (λ sum. sum ≡ count + more) }
-    ensures full { result ≡ Err HeadFault.Full → count_limit < count + more }
+    ensures full { OnErr result (count_limit < count + more) }
     ensures few { count + more ≤ count_limit → IsOk result }
     ensures nothing { more ≡ 0 → IsOk result }
-    ensures fault { result ≡ Err HeadFault.Memory → ⊥ }
-    ensures sound { result ≡ Err HeadFault.Failed → ⊥ }
 {
-    count.checked_add(more).ok_or(HeadFault::Full)
+    count.checked_add(more).ok_or(CountFull)
 }
 
 // Returns the number of entries of a record.
@@ -121,19 +117,17 @@ impl Counts {
         }
     }
 
-    /// Returns `Full` unless each count of entries has room for all entries of the records, and each count of records for all records.
-    pub fn check_room(&self, records: &[WalRecord]) -> Result<(), HeadFault>
+    /// Returns an error unless each count of entries has room for all entries of the records, and each count of records for all records.
+    pub fn check_room(&self, records: &[WalRecord]) -> Result<(), CountFull>
         ensures counts { OnOk result (HaveCounts self.now (entries_of records.now)) }
         ensures classes { OnOk result (HaveClasses self.now records.now) }
         ensures expired { OnOk result (HaveExpired self.now (entries_of records.now)) }
-        ensures full { result ≡ Err HeadFault.Full → HaveCounts self.now (entries_of records.now) → HaveExpired self.now (entries_of records.now) → HaveClasses self.now records.now → ⊥ }
-        ensures limit { (HaveCounts self.now (entries_of records.now) × HaveExpired self.now (entries_of records.now) × HaveClasses self.now records.now → ⊥) → result ≡ Err HeadFault.Full }
+        ensures full { OnErr result (HaveCounts self.now (entries_of records.now) → HaveExpired self.now (entries_of records.now) → HaveClasses self.now records.now → ⊥) }
+        ensures limit { (HaveCounts self.now (entries_of records.now) × HaveExpired self.now (entries_of records.now) × HaveClasses self.now records.now → ⊥) → IsErr result }
         ensures nothing { records.now ≡ [] → IsOk result }
-        ensures fault { result ≡ Err HeadFault.Memory → ⊥ }
-        ensures sound { result ≡ Err HeadFault.Failed → ⊥ }
     {
         let Some(entries) = count_entries(records) else {
-            return Err(HeadFault::Full);
+            return Err(CountFull);
         };
         let classes = [
             self.series_records,
@@ -152,24 +146,22 @@ impl Counts {
         ];
         let expired = [self.expired_samples, self.expired_stones];
         if !all_fit(&classes, records.len() as u64) {
-            return Err(HeadFault::Full);
+            return Err(CountFull);
         }
         if !all_fit(&fates, entries) {
-            return Err(HeadFault::Full);
+            return Err(CountFull);
         }
         if !all_fit(&expired, entries) {
-            return Err(HeadFault::Full);
+            return Err(CountFull);
         }
         Ok(())
     }
 
-    /// Adds 1 to the count of an outcome. Returns `Full`, with the counts unchanged, if it is 2^64 - 1.
-    pub fn add_outcome(&mut self, outcome: Outcome) -> Result<(), HeadFault>
+    /// Adds 1 to the count of an outcome. Returns an error, with the counts unchanged, if it is 2^64 - 1.
+    pub fn add_outcome(&mut self, outcome: Outcome) -> Result<(), CountFull>
         ensures more { OnOk result (self.new ≡ with_fate (fate_of outcome) self.old) }
-        ensures full { result ≡ Err HeadFault.Full → count_of_fate (fate_of outcome) self.old ≡ count_limit }
+        ensures full { OnErr result (count_of_fate (fate_of outcome) self.old ≡ count_limit) }
         ensures refused { OnErr result (self.new ≡ self.old) }
-        ensures fault { result ≡ Err HeadFault.Memory → ⊥ }
-        ensures sound { result ≡ Err HeadFault.Failed → ⊥ }
     {
         match outcome {
             Outcome::Accepted => one_more(&mut self.accepted),
@@ -180,13 +172,11 @@ impl Counts {
     }
 
     // Adds 1 to the count of a record's type.
-    pub(crate) fn add_record(&mut self, log_record: &WalRecord) -> Result<(), HeadFault>
+    pub(crate) fn add_record(&mut self, log_record: &WalRecord) -> Result<(), CountFull>
         ensures more { OnOk result (self.new ≡ with_record log_record.now self.old) }
-        ensures full { result ≡ Err HeadFault.Full → count_of_class log_record.now self.old ≡ count_limit }
-        ensures counted { count_of_class log_record.now self.old ≡ count_limit → result ≡ Err HeadFault.Full }
+        ensures full { OnErr result (count_of_class log_record.now self.old ≡ count_limit) }
+        ensures counted { count_of_class log_record.now self.old ≡ count_limit → IsErr result }
         ensures few { count_of_class log_record.now self.old < count_limit → IsOk result }
-        ensures fault { result ≡ Err HeadFault.Memory → ⊥ }
-        ensures sound { result ≡ Err HeadFault.Failed → ⊥ }
     {
         match log_record {
             WalRecord::Series(_) => one_more(&mut self.series_records),
@@ -196,12 +186,10 @@ impl Counts {
         }
     }
 
-    // Returns the sums of these counts and others, or `Full` if one of them does not fit in 64 bits.
-    pub(crate) fn plus(&self, others: &Counts) -> Result<Counts, HeadFault>
+    // Returns the sums of these counts and others, or an error if one of them does not fit in 64 bits.
+    pub(crate) fn plus(&self, others: &Counts) -> Result<Counts, CountFull>
         ensures sums { IfOk result (λ sums. sums ≡ plus self.now others.now) }
-        ensures full { result ≡ Err HeadFault.Full → AreCountsWithin (plus self.now others.now) → ⊥ }
-        ensures fault { result ≡ Err HeadFault.Memory → ⊥ }
-        ensures sound { result ≡ Err HeadFault.Failed → ⊥ }
+        ensures full { OnErr result (AreCountsWithin (plus self.now others.now) → ⊥) }
     {
         Ok(Counts {
             series_records: sum(self.series_records, others.series_records)?,
@@ -221,13 +209,11 @@ impl Counts {
     }
 
     // Adds the numbers of expired samples and deletions to their counts.
-    pub(crate) fn add_expired(&mut self, samples: usize, stones: usize) -> Result<(), HeadFault>
+    pub(crate) fn add_expired(&mut self, samples: usize, stones: usize) -> Result<(), CountFull>
         ensures more { OnOk result (self.new ≡ record self.old { expired_samples = self.old.expired_samples + samples; expired_stones = self.old.expired_stones + stones }) }
-        ensures full { result ≡ Err HeadFault.Full → (count_limit < self.old.expired_samples + samples) ⊎ (count_limit < self.old.expired_stones + stones) }
+        ensures full { OnErr result ((count_limit < self.old.expired_samples + samples) ⊎ (count_limit < self.old.expired_stones + stones)) }
         ensures few { self.old.expired_samples + samples ≤ count_limit → self.old.expired_stones + stones ≤ count_limit → IsOk result }
         ensures nothing { samples ≡ 0 → stones ≡ 0 → IsOk result }
-        ensures fault { result ≡ Err HeadFault.Memory → ⊥ }
-        ensures sound { result ≡ Err HeadFault.Failed → ⊥ }
     {
         self.expired_samples = sum(self.expired_samples, samples as u64)?;
         self.expired_stones = sum(self.expired_stones, stones as u64)?;
@@ -239,35 +225,29 @@ impl Counts {
         &mut self,
         samples: &[SampleEntry],
         min_valid: i64,
-    ) -> Result<(), HeadFault>
+    ) -> Result<(), CountFull>
         ensures more { OnOk result (self.new ≡ with_expired min_valid (Samples samples.now) (with_record (Samples samples.now) self.old)) }
-        ensures over { result ≡ Err HeadFault.Full → (count_of_class (Samples samples.now) self.old ≡ count_limit) ⊎ IsExpiredOver min_valid (Samples samples.now) self.old }
-        ensures full { result ≡ Err HeadFault.Full → AreCountsWithin (with_expired min_valid (Samples samples.now) (with_record (Samples samples.now) self.old)) → ⊥ }
-        ensures counted { count_of_class (Samples samples.now) self.old ≡ count_limit → result ≡ Err HeadFault.Full }
-        ensures fault { result ≡ Err HeadFault.Memory → ⊥ }
-        ensures sound { result ≡ Err HeadFault.Failed → ⊥ }
+        ensures over { OnErr result ((count_of_class (Samples samples.now) self.old ≡ count_limit) ⊎ IsExpiredOver min_valid (Samples samples.now) self.old) }
+        ensures full { OnErr result (AreCountsWithin (with_expired min_valid (Samples samples.now) (with_record (Samples samples.now) self.old)) → ⊥) }
+        ensures counted { count_of_class (Samples samples.now) self.old ≡ count_limit → IsErr result }
     {
         one_more(&mut self.sample_records)?;
         self.add_expired(count_expired(samples, min_valid), 0)
     }
 
     // Adds a number of series entries to their count.
-    pub(crate) fn add_bound(&mut self, many: usize) -> Result<(), HeadFault>
+    pub(crate) fn add_bound(&mut self, many: usize) -> Result<(), CountFull>
         ensures more { OnOk result (self.new ≡ record self.old { series_entries = self.old.series_entries + many }) }
-        ensures full { result ≡ Err HeadFault.Full → count_limit < self.old.series_entries + many }
-        ensures fault { result ≡ Err HeadFault.Memory → ⊥ }
-        ensures sound { result ≡ Err HeadFault.Failed → ⊥ }
+        ensures full { OnErr result (count_limit < self.old.series_entries + many) }
     {
         self.series_entries = sum(self.series_entries, many as u64)?;
         Ok(())
     }
 
     // Adds 1 to the count of items whose reference has no owner.
-    pub(crate) fn add_unknown(&mut self, item: &Item) -> Result<(), HeadFault>
+    pub(crate) fn add_unknown(&mut self, item: &Item) -> Result<(), CountFull>
         ensures more { OnOk result (self.new ≡ with_fate (unknown_fate item.now) self.old) }
-        ensures full { result ≡ Err HeadFault.Full → count_of_fate (unknown_fate item.now) self.old ≡ count_limit }
-        ensures fault { result ≡ Err HeadFault.Memory → ⊥ }
-        ensures sound { result ≡ Err HeadFault.Failed → ⊥ }
+        ensures full { OnErr result (count_of_fate (unknown_fate item.now) self.old ≡ count_limit) }
     {
         match item {
             Item::Sample(_) => one_more(&mut self.unknown),

@@ -16,6 +16,10 @@ pub enum HeadFault {
     Memory,
 }
 
+/// The error of a count: it would pass 2^64 - 1.
+#[derive(Clone, Copy, Debug, PartialEq, Eq)]
+pub struct CountFull;
+
 impl fmt::Display for HeadFault {
     fn fmt<W: fmt::Write>(&self, f: &mut fmt::Formatter<W>) -> fmt::Result {
         f.write_str(match self {
@@ -27,6 +31,17 @@ impl fmt::Display for HeadFault {
 }
 
 impl Error for HeadFault {}
+
+impl From<CountFull> for HeadFault {
+    ghost use Rattle.std.specs.Prelude.{◌≡◌};
+    ghost use Rattle.head_resolver.specs.declared.fault.HeadFault.TheVariants.{Full};
+
+    ghost from_gives = { λ _ e. e ≡ Full };
+
+    fn from(_error: CountFull) -> HeadFault {
+        HeadFault::Full
+    }
+}
 
 impl From<BindFault> for HeadFault {
     ghost use Rattle.std.specs.Prelude.{◌≡◌, ◌↔◌};

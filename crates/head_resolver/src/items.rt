@@ -1,6 +1,6 @@
 //! Items of entries, and lists of them.
 
-ghost use Rattle.std.specs.Prelude.{◌≡◌, ◌<◌, ◌≤◌, ◌++◌, ◌∷◌, [], Err, Some, None, count_by, length, IfOk, IfSome, IsOk};
+ghost use Rattle.std.specs.Prelude.{◌≡◌, ◌<◌, ◌≤◌, ◌++◌, ◌∷◌, [], Err, Some, None, count_by, length, IfOk, IfSome, IsOk, OnErr};
 ghost use Rattle.std.specs.Option.{option_to_list};
 ghost use Rattle.std.specs.Vec.{vec_capacity};
 ghost use Rattle.wal_record.specs.Entries.{Entry, entries_in};
@@ -10,7 +10,7 @@ ghost use Rattle.head_resolver.specs.Resolving.{IsResolving, IsStopped, IsStoppe
 ghost use Rattle.head_resolver.specs.Ahead.{AreItem};
 ghost use Rattle.head_resolver.specs.Validity.{is_expired};
 
-use crate::fault::HeadFault;
+use crate::fault::CountFull;
 use crate::resolver::Resolver;
 use head_column::{Item, Run, Sample};
 use head_series::Slot;
@@ -32,20 +32,16 @@ pub trait ItemEntry {
 
     /// Returns its item with the slot of its reference's owner, or counts it as unknown and returns `None`. Returns `Full` if the count would
     /// pass its limit.
-    fn find(&self, resolver: &mut Resolver) -> Result<Option<(Slot, Item)>, HeadFault>
+    fn find(&self, resolver: &mut Resolver) -> Result<Option<(Slot, Item)>, CountFull>
         ensures step { IfOk result (λ found. IsResolving resolver.old (entry self.now) (option_to_list found) resolver.new) }
-        ensures full { result ≡ Err HeadFault.Full → IsStopped resolver.old (entry self.now) }
-        ensures fault { result ≡ Err HeadFault.Failed → ⊥ }
-        ensures memory { result ≡ Err HeadFault.Memory → ⊥ }
+        ensures full { OnErr result (IsStopped resolver.old (entry self.now)) }
         ensures kept { resolver.new.failed ≡ resolver.old.failed }
         ensures time { resolver.new.min_valid ≡ resolver.old.min_valid };
 
     /// Does the same with what the least valid time leaves of it. Returns `None` if it is expired.
-    fn find_valid(&self, resolver: &mut Resolver) -> Result<Option<(Slot, Item)>, HeadFault>
+    fn find_valid(&self, resolver: &mut Resolver) -> Result<Option<(Slot, Item)>, CountFull>
         ensures step { IfOk result (λ found. Resolves resolver.old (valid_entry resolver.old.min_valid (entry self.now)) (option_to_list found) resolver.new) }
-        ensures full { result ≡ Err HeadFault.Full → IsStoppedIn resolver.old (valid_entry resolver.old.min_valid (entry self.now)) }
-        ensures fault { result ≡ Err HeadFault.Failed → ⊥ }
-        ensures memory { result ≡ Err HeadFault.Memory → ⊥ }
+        ensures full { OnErr result (IsStoppedIn resolver.old (valid_entry resolver.old.min_valid (entry self.now))) }
         ensures kept { resolver.new.failed ≡ resolver.old.failed }
         ensures time { resolver.new.min_valid ≡ resolver.old.min_valid };
 }
@@ -66,11 +62,11 @@ impl ItemEntry for SampleEntry {
         Some((self.reference, item_of_sample(self)))
     }
 
-    fn find(&self, resolver: &mut Resolver) -> Result<Option<(Slot, Item)>, HeadFault> {
+    fn find(&self, resolver: &mut Resolver) -> Result<Option<(Slot, Item)>, CountFull> {
         resolver.find_owner(self.reference, item_of_sample(self))
     }
 
-    fn find_valid(&self, resolver: &mut Resolver) -> Result<Option<(Slot, Item)>, HeadFault> {
+    fn find_valid(&self, resolver: &mut Resolver) -> Result<Option<(Slot, Item)>, CountFull> {
         if self.is_expired(resolver.min_valid()) {
             return Ok(None);
         }
@@ -94,11 +90,11 @@ impl ItemEntry for StoneEntry {
         Some((self.reference, item_of_stone(&raised(self, min_valid))))
     }
 
-    fn find(&self, resolver: &mut Resolver) -> Result<Option<(Slot, Item)>, HeadFault> {
+    fn find(&self, resolver: &mut Resolver) -> Result<Option<(Slot, Item)>, CountFull> {
         resolver.find_owner(self.reference, item_of_stone(self))
     }
 
-    fn find_valid(&self, resolver: &mut Resolver) -> Result<Option<(Slot, Item)>, HeadFault> {
+    fn find_valid(&self, resolver: &mut Resolver) -> Result<Option<(Slot, Item)>, CountFull> {
         let min_valid = resolver.min_valid();
         if self.is_expired(min_valid) {
             return Ok(None);

@@ -32,7 +32,7 @@ pub fn spread_records()
 {}
 
 /// A window of records begins with none (`start`), and its records that bind nothing need no binding (`quiet`). Where its bindings were
-/// made ahead, a reference has at each place the slot that it has behind the records before that place (`places`). Where all of its records
+/// made ahead, a reference has at each place the slot that it has after the records before that place (`places`). Where all of its records
 /// were taken, what was taken of the log is resolved (`done`). Of no records nothing is spread (`none`).
 pub fn spread_ahead()
     ensures start { (t : Taken) (v : ResolverValue) → IsResolved t v → IsAhead t [] [] [] v }

@@ -16,7 +16,7 @@ mod resolver;
 
 pub use changes::Changes;
 pub use counts::Counts;
-pub use fault::HeadFault;
+pub use fault::{CountFull, HeadFault};
 pub use items::{ItemEntry, item_of_sample, item_of_stone, raised};
 pub use laws::{slots_stay, spread_ahead, spread_records};
 pub use resolver::Resolver;

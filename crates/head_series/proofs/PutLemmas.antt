@@ -20,7 +20,7 @@ reversed-push f xs x = ap reverse (map-append f xs (x ∷ [])) ∙ reverse-appen
 pub drop_one : {A : Type 0} (xs : List A) (n : ℕ) (x : A) → slice_get xs n ≡ Some x → drop n xs ≡ x ∷ drop (n + 1) xs
 drop_one xs n x h = let k : suc n ≡ n + 1 = omega arith in drop_at xs n x h ∙ ap (λ m. x ∷ drop m xs) k
 
--- What stands once some labels were put in, and the rest not yet.
+-- What there is once some labels were put in, and the rest not yet.
 pub record IsPut (old : TextTable) (ready : List Label) (now : TextTable) (ns : List (ℕ × ℕ)) (rest : List Label) : Type 0 where
   pub read : IsRead old.texts (labels_in now.texts ns) now.texts ns
   pub all : labels_in now.texts ns ++ rest ≡ ready

@@ -18,7 +18,7 @@ use wal_log::{
 use wal_page::FaultKind;
 use wal_record::Items;
 
-// A log, the segments behind it, and the checkpoint that is made of the log with a least valid time: its number and its files, each of at
+// A log, the segments after it, and the checkpoint that is made of the log with a least valid time: its number and its files, each of at
 // most so many pages.
 #[derive(Clone, Copy)]
 struct Case {
@@ -102,7 +102,7 @@ fn check_shown<R: Abort + Threads + Wait + Sync>(
     Ok(text)
 }
 
-// The log of the case with the segments behind it.
+// The log of the case with the segments after it.
 fn whole(alloc: Global, case: &Case) -> Result<Input, AllocError> {
     let mut segments = Vec::from_slice(alloc, case.log.segments)?;
     segments.extend_from_slice(case.behind)?;
@@ -146,7 +146,7 @@ fn check_whole<R: Abort + Threads + Wait + Sync>(
     Ok(())
 }
 
-// That the checkpoint is as the case says, is its own checkpoint, and with the segments behind it shows what the whole log shows.
+// That the checkpoint is as the case says, is its own checkpoint, and with the segments after it shows what the whole log shows.
 fn check<R: Abort + Threads + Wait + Sync>(rt: &R, alloc: Global, case: &Case) -> Result<(), Fail> {
     let made = made_of(rt, alloc, case, &input_of(alloc, case.log)?)?;
     let alone = input_with(alloc, Some(made), 0, &[])?;
@@ -278,7 +278,7 @@ const DAMAGED: CheckpointFault = CheckpointFault::Damaged(Damage {
     kind: FaultKind::BadSum,
 });
 
-// A record of more bytes than a page has, alone and with a damaged one behind it.
+// A record of more bytes than a page has, alone and with a damaged one after it.
 const LARGE: Log = Log {
     segments: &[&[Line::Seconds(0, 3000)]],
     ..NO_FILES

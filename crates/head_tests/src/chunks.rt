@@ -29,7 +29,7 @@ fn hour_of_a_time(rt: HostRuntime) {
     }
 }
 
-// Times, and whether their hours are edges. The last time is the first one of its hour, the one behind the first edge.
+// Times, and whether their hours are edges. The last time is the first one of its hour, the one after the first edge.
 const EDGES: [(i64, bool); 4] = [
     (i64::MIN, true),
     (i64::MAX, true),

@@ -174,7 +174,7 @@ const LAST_PART_CHANGED: Case = Case {
     }),
 };
 
-// The file behind it is no part of the log either.
+// The file after it is no part of the log either.
 const NEVER_ENDED: Case = Case {
     name: "a record that begins in the last page of its file and never ends",
     log: Log {

@@ -1,4 +1,4 @@
-//! A device that fails under an append, behind each number of bytes.
+//! A device that fails under an append, after each number of bytes.
 
 use crate::appends::{THREE_AND_ONE, first_bytes, open, push_call};
 use crate::device::Device;

@@ -62,7 +62,7 @@ impl Encounter {
     }
 }
 
-// A gate that two workers pass together, and behind which they run their parts together.
+// A gate that two workers pass together, and after which they run their parts together.
 #[derive(Drop)]
 struct Meeting<C> {
     clock: C,

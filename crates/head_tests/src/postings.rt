@@ -6,7 +6,7 @@ ghost use Rattle.head_postings.specs.Postings.{Labels};
 ghost use Rattle.head_postings.specs.Room.{HasRoom, IsReserved};
 
 use crate::{indices, same};
-use head_postings::{Batch, Postings};
+use head_postings::{Postings, PostingsBatch};
 use head_series::Slot;
 use std::alloc::{AllocError, Global};
 use std::process::Abort;
@@ -282,7 +282,7 @@ fn add_ready(postings: &mut Postings, number: u32, labels: &LabelSet) -> Result<
 
 fn make_room_for_both(
     postings: &mut Postings,
-    batch: &mut Batch,
+    batch: &mut PostingsBatch,
     first: &LabelSet,
     second: &LabelSet,
 ) -> Result<(), AllocError>

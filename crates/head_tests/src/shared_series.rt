@@ -21,7 +21,7 @@ const OPENED: &[Entry] = &[
     Entry::Series(2, b"y"),
 ];
 
-// A row behind the sample and one at its time; and a row of the other series.
+// A row after the sample and one at its time; and a row of the other series.
 const TWO: Listed = Listed {
     calls: &[
         &[&[(6000, 2, &[(b"a", b"x")]), (5000, 3, &[(b"a", b"x")])]],

@@ -24,7 +24,7 @@ spelled_whole file (piece ∷ more) placed damage all (inl (content, others, is,
 spelled_whole file (piece ∷ more) placed damage all (inr (none, empty, found)) =
     let spelled = All-head SpellsOne _ _ all in absurd (none spelled.0 spelled.1)
 
--- two lists of records behind each other
+-- two lists of records after each other
 both_zip : (rs : List (List ℕ)) (cs : List WalRecord) (ss : List (List ℕ)) (ds : List WalRecord) → AllZip IsRecord rs cs → AllZip IsRecord ss ds → AllZip IsRecord (rs ++ ss) (cs ++ ds)
 both_zip [] [] ss ds h k = k
 both_zip [] (c ∷ cs) ss ds h k = absurd h

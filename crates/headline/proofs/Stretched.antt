@@ -94,7 +94,7 @@ module _ (whole : (rs : List (List ℕ)) → IsFile (text_from 0 rs) (pieces_at 
           subst (λ (fs : List Segment). HaveJust (log_files in_checkpoint fs) (here.0 ++ more.0)) (sym files_are) (here.0, more.0, here.2, refl, more.2),
         )
 
--- files that have just some records, behind others
+-- files that have just some records, after others
 have_both : (fs gs : List LogFile) (rs ss : List (List ℕ)) → HaveJust fs rs → HaveJust gs ss → HaveJust (fs ++ gs) (rs ++ ss)
 have_both [] gs rs ss h k = subst (λ (xs : List (List ℕ)). HaveJust gs (xs ++ ss)) (sym h) k
 have_both (f ∷ fs) gs rs ss (here, others, has, is, rest) k = (here, others ++ ss, has, ap (λ (xs : List (List ℕ)). xs ++ ss) is ∙ append_assoc here others ss, have_both fs gs others ss rest k)

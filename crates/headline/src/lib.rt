@@ -20,7 +20,7 @@
 //!
 //! All of this is of runs to which no memory and no thread is refused; where one is, the functions return an error in place of a head or a
 //! block. The functions here do nothing when they are called: each is a law, whose clauses are proved for all values that they name. The
-//! definitions that they rest on are in docs/READING.md, in the order in which to read them.
+//! definitions behind the head and its blocks are in docs/READING.md, in the order in which to read them; docs/DEFINITIONS.md lists the others.
 #![tactic(auto)]
 
 mod laws;

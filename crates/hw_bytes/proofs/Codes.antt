@@ -57,7 +57,7 @@ pub at_none : {X Y : Type 0} (P : List ℕ → X → Type 0) (bytes : List ℕ) 
 at_none P bytes None h = h refl
 at_none P bytes (Some x) h = tt
 
--- what was found is what stands there, and the rest is what comes behind it
+-- what was found is what is there, and the rest is what comes after it
 pub after : {X : Type 0} (P : List ℕ → X → Type 0) → ((f r g s : List ℕ) (x y : X) → P f x → P g y → f ++ r ≡ g ++ s → (x ≡ y) × (r ≡ s))
     → (bytes front rest : List ℕ) (x y : X) (len : ℕ) → IsAt P bytes x len → P front y → bytes ≡ front ++ rest → (x ≡ y) × (drop len bytes ≡ rest)
 after P one bytes front rest x y len at p e = one (take len bytes) (drop len bytes) front rest x y at.spelled p (take-append-drop len bytes ∙ e)

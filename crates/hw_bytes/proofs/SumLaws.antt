@@ -1,4 +1,4 @@
--- A checksum is read again behind its text.
+-- A checksum is read again after its text.
 use Rattle.std.proofs.Common.{◌≡◌, ℕ, ◌^◌, ◌<◌, true, false, ltb, eqb, List, ◌++◌, length, take, drop, Some, refl, ◌∙◌, arith, eq-eqb}
 use Rattle.std.specs.Int.{w32, from_be_bytes, to_be_bytes}
 use Rattle.std.proofs.lemmas.Bool.{le-ltb}
@@ -31,7 +31,7 @@ pub sum_length : (body : List ℕ) → length (sum_text body) ≡ 4
 unfolding sum_text
 sum_length body = refl
 
--- what the writer puts behind a text is its checksum
+-- what the writer puts after a text is its checksum
 pub sums_again : (body rest : List ℕ) → IsBytes body → sums (length body) (body ++ (sum_text body ++ rest)) ≡ true
 sums_again body rest h =
     let t : take (length body) (body ++ (sum_text body ++ rest)) ≡ body = take_at body (sum_text body ++ rest) (length body) refl in

@@ -19,7 +19,7 @@ pub record IsCode {X : Type 0} (P : List ℕ → X → Type 0) : Type 0 where
   pub one : (f r g s : List ℕ) (x y : X) → P f x → P g y → f ++ r ≡ g ++ s → (x ≡ y) × (r ≡ s)
   pub some : (front : List ℕ) (x : X) → P front x → 0 < length front
 
--- the bytes are spellings of these values in order, with nothing between or behind them
+-- the bytes are spellings of these values in order, with nothing between or after them
 abbrev pub Each : {X : Type 0} → (List ℕ → X → Type 0) → List ℕ → List X → Type 0
 Each P bytes [] = bytes ≡ []
 Each P bytes (x ∷ xs) = (front : List ℕ) × (rest : List ℕ) × (bytes ≡ front ++ rest) × P front x × Each P rest xs

@@ -67,7 +67,7 @@ unfolding elements
 none_left element zero = refl
 none_left element (suc k) = refl
 
--- A section is read again: elements laid behind n bytes, up to the place end.
+-- A section is read again: elements laid after n bytes, up to the place end.
 pub elements_again : {X : Type 0} (align end : ℕ) (element : Element X) (ts : List Text) (xs : List X) (n k : ℕ) → AreReadAt align end element ts xs → n + length (laid align n ts) ≡ end → length (laid align n ts) ≤ k
     → elements element k (laid align n ts) ≡ Ok xs
 unfolding laid

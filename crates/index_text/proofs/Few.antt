@@ -28,7 +28,7 @@ element_longer table r =
     let body = series_body table r in
     omega (arith, chunks_shorter table r, length-append (uvarint (length body) ++ body) (sum_text body), length-append (uvarint (length body)) body)
 
--- the places of a series and of those behind it
+-- the places of a series and of those after it
 ids_split : (table : List Text) (before : Text) (r : IndexRow) (rs : List IndexRow) → AreSmall (λ (id : ℕ). id) (sixteenths (places 16 before (map (element table) (r ∷ rs))))
     → AreSmall (λ (id : ℕ). id) (sixteenths ((length before + padding 16 (length before)) ∷ places 16 (put 16 before (element table r)) (map (element table) rs)))
 ids_split table before r rs = subst (λ ps. AreSmall (λ (id : ℕ). id) (sixteenths ps)) (places-cons 16 before (element table r) (map (element table) rs))

@@ -36,7 +36,7 @@ places-cons align before e es =
     one_on : (i : ℕ) → place align before (e ∷ es) (i + 1) ≡ place align (put align before e) es i
     one_on i = let s : i + 1 ≡ suc i = omega arith in ap (place align before (e ∷ es)) s
 
--- ---- one element more behind what was put so far
+-- ---- one element more after what was put so far
 
 pub put_step : (align : ℕ) (out padded done : Text) (e : Text) (es es' : List Text) → es ≡ e ∷ es' → padded ≡ out ++ replicate (padding align (length out)) 0 → done ≡ padded ++ e → put_all align done es' ≡ put_all align out es
 put_step align out padded done e es es' parts pad is = ap (λ t. put_all align t es') (is ∙ ap (λ t. t ++ e) pad) ∙ ap (put_all align out) (sym parts)

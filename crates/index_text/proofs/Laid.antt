@@ -4,7 +4,7 @@ use Rattle.std.specs.Prelude.{replicate}
 use Rattle.std.proofs.lemmas.List.{append-nil, length-append, length-replicate, drop_at}
 use Rattle.index_text.specs.Layout.{Text, padding, put, put_all}
 
--- what follows a text of n bytes, where these elements are put behind it
+-- what follows a text of n bytes, where these elements are put after it
 unfoldable pub laid : ℕ → ℕ → List Text → Text
 laid align n [] = []
 laid align n (e ∷ es) = replicate (padding align n) 0 ++ (e ++ laid align (n + padding align n + length e) es)

@@ -66,7 +66,7 @@ module _ {A : Type 0} (cmp : A → A → Ordering) where
   heads order x y xs ys h k (inr m) (inl e) = sym e
   heads order x y xs ys h k (inr m) (inr n) = absurd (not_both order x y (before_it x y xs h n) (before_it y x ys k m))
 
-  -- what is behind the head of one is behind the head of the other
+  -- what is after the head of one is after the head of the other
   behind : IsStrictOrder → (x y z : A) (xs ys : List A) → x ≡ y → IsBefore cmp x xs → Has z xs → Has z (y ∷ ys) → Has z ys
   behind order x y z xs ys same h m (inr n) = n
   behind order x y z xs ys same h m (inl e) = absurd (not_itself order x (ap (cmp x) (same ∙ sym e) ∙ before_it x z xs h m))
@@ -172,7 +172,7 @@ module _ {A : Type 0} (cmp : A → A → Ordering) where
   is_less Equal e = absurd cc
   is_less Greater e = absurd cc
 
-  -- in an ascending list nothing that comes before x stands behind what does not
+  -- in an ascending list nothing that comes before x is after what does not
   pub parted : {X : Type 0} (key : X → A) → IsOrder → (x : A) (xs : List X) → IsAscending cmp (map key xs) → IsPartitionedBy (λ y. is_lt (cmp (key y) x)) xs
   parted key order x xs h i j d le within less = by (cases_lt i j)
     where

@@ -71,7 +71,7 @@ cut : (whole a s b t : Text) → whole ≡ b ++ t → b ≡ a ++ s → between (
 cut whole a s b t w e =
     ap (λ x. between (length a) (length b) x) (w ∙ ap (λ x. x ++ t) e) ∙ ap (λ x. between (length a) (length x) ((a ++ s) ++ t)) e ∙ between-is a s t
 
--- what follows a part follows what stands before it, and it
+-- what follows a part follows what is before it, and it
 joined : (whole a s b t : Text) → whole ≡ b ++ t → b ≡ a ++ s → whole ≡ a ++ (s ++ t)
 joined whole a s b t w e = w ∙ ap (λ x. x ++ t) e ∙ append_assoc a s t
 

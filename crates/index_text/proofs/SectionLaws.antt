@@ -47,7 +47,7 @@ unfolding elements_done
 none_passed element zero = refl
 none_passed element (suc k) = refl
 
--- A section passes: elements laid behind n bytes, up to the place end.
+-- A section passes: elements laid after n bytes, up to the place end.
 pub elements_done_again : (end : ℕ) (element : List ℕ → Result (List ℕ) ReadFault) (ts : List Text) (n k : ℕ) → ArePassedAt end element ts → n + length (laid 4 n ts) ≡ end → length (laid 4 n ts) ≤ k
     → elements_done element k (laid 4 n ts) ≡ Ok tt
 unfolding laid

@@ -15,7 +15,7 @@ use Rattle.index_text.specs.Reading.{between, are_places, places_of, toc_of}
 use Rattle.hw_bytes.specs.Spellings.{IsBytes}
 use Rattle.hw_bytes.proofs.SumLaws.{sum_reads, sum_length}
 
--- a section lies between the lengths of what stands before it and with it
+-- a section lies between the lengths of what is before it and with it
 pub between-is : (before section rest : Text) → between (length before) (length (before ++ section)) ((before ++ section) ++ rest) ≡ section
 between-is before section rest =
     let d : drop (length before) ((before ++ section) ++ rest) ≡ section ++ rest = ap (drop (length before)) (append_assoc before section rest) ∙ drop_at before (section ++ rest) (length before) refl in

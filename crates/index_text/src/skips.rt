@@ -54,9 +54,9 @@ impl Skipped for FourBelow {
 }
 
 // A number of four bytes.
-pub(crate) struct Four;
+pub(crate) struct FourByteField;
 
-impl Skipped for Four {
+impl Skipped for FourByteField {
     ghost use Rattle.std.specs.Prelude.{ℕ};
     ghost use Rattle.index_text.specs.Fields.{four as four_in};
 
@@ -140,7 +140,7 @@ pub(crate) fn postings_contents(bytes: &[u8]) -> Result<(), ReadFault>
     ensures { Gives (λ x. x) result (postings_done bytes.now) }
 {
     let (count, rest) = four(bytes)?;
-    let rest = skip_all(&Four, u64::from(count), rest)?;
+    let rest = skip_all(&FourByteField, u64::from(count), rest)?;
     all_read(rest)
 }
 

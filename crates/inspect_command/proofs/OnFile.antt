@@ -115,7 +115,7 @@ number_holds f later r is = by (next_number f.in_checkpoint later) refl is where
   by None at e = absurd (let k : None ≡ Some r = e in cc)
   by (Some next) at e = of_next f later next (f.number == next) r at refl e
 
--- ---- what holds is told
+-- ---- what holds is reported
 
 -- a remark that holds of a file is that on what cannot be read, on what is found, or on the number of the next file
 abbrev pub IsToldOfFile : FileSurvey → List FileSurvey → Remark → Type 0

@@ -35,7 +35,7 @@ in_some (Some x) r (k, within, is) = (let z : k ≡ 0 = omega (arith, within) in
 of_some : (o : Option Remark) (r : Remark) → o ≡ Some r → Contains (some_of o) r
 of_some o r is = subst (λ (p : Option Remark). Contains (some_of p) r) (sym is) (0, omega arith, refl)
 
--- a remark on a file behind the first
+-- a remark on a file after the first
 below_later : (f : FileSurvey) (later : List FileSurvey) (r : Remark) → HoldsBelow (length later) later r → HoldsBelow (length (f ∷ later)) (f ∷ later) r
 below_later f later r (k, g, below, at, holds) =
     let next : suc k + 1 ≡ suc (k + 1) = omega arith in
@@ -209,7 +209,7 @@ status_told (r ∷ more) i status is_done is_damaged told = inr (is_damaged (λ 
 
 -- ---- one file after another
 
--- the files from one on are that one and those behind it
+-- the files from one on are that one and those after it
 from_one : (files : List FileSurvey) (n : ℕ) (f : FileSurvey) (later : List FileSurvey) → n < length files → f ≡ get_or files n f → later ≡ drop (n + 1) files → drop n files ≡ f ∷ later
 from_one files n f later within is behind =
     let next : suc n ≡ n + 1 = omega arith in
@@ -250,7 +250,7 @@ all_told files n told all past so_far = sym (append-nil told) ∙ ap (λ (l : Li
 pub all_read : (files : List FileSurvey) (n : ℕ) → length files ≤ n → are_read files ≡ are_read (drop n files) → are_read files ≡ true
 all_read files n past so_far = so_far ∙ ap are_read (none_left files n past)
 
--- the list that was told
+-- the list that was reported
 pub told_list : (i : Inspection) (files : List FileSurvey) (w x y z : Option Remark) (none a b c d e : List Remark) → files ≡ i.files.items → w ≡ log_remark i → x ≡ checkpoint_remark i.checkpoint files → y ≡ passed_remark i.passed_over
     → z ≡ unbound_remark i.unbound i.is_wbl files → none ≡ [] → a ≡ none ++ some_of w → b ≡ a ++ some_of x → c ≡ b ++ some_of y → d ≡ c ++ file_remarks files → e ≡ d ++ some_of z → e ≡ all_remarks i
 told_list i files w x y z none a b c d e are log checkpoint passed unbound empty first second third each last =

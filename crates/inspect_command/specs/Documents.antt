@@ -87,7 +87,7 @@ damage_members d = (codes "offset", natural d.offset) ∷ (codes "kind", or_null
 abbrev pub damage_data : UnpackDamage → Data
 damage_data d = object_of (damage_members d)
 
--- how much of a file can be read, also behind damage
+-- how much of a file can be read, also after damage
 abbrev pub readable_members : Readable → List Member
 readable_members r = (codes "records", natural r.records) ∷ (codes "samples", natural r.samples) ∷ (codes "places", natural r.places) ∷ (codes "passed", natural r.passed) ∷ []
 

@@ -23,7 +23,7 @@ damage_of f damage = record { file = file_of f; damage = damage; readable = f.su
 abbrev pub damage_remark : FileSurvey → UnpackDamage → Bool → Remark
 damage_remark f damage last = if last && is_torn damage.fault then TornEnd (damage_of f damage) else Damaged (damage_of f damage)
 
--- the remark on a file of no bytes, and on one without damage, behind which come these files
+-- the remark on a file of no bytes, and on one without damage, after which come these files
 abbrev pub empty_remark : FileSurvey → List FileSurvey → Option Remark
 empty_remark f later = if f.in_checkpoint && has_checkpoint_file later then Some (Empty (file_of f)) else None
 

@@ -40,7 +40,7 @@ abbrev pub damage_hides : Option UnpackDamage → Bool → Bool
 damage_hides None last = false
 damage_hides (Some damage) last = not (last && is_torn damage.fault)
 
--- whether a file that is the last one or not may have records that were not read: behind damage, or in what cannot be read
+-- whether a file that is the last one or not may have records that were not read: after damage, or in what cannot be read
 abbrev pub hides_records : FileSurvey → Bool → Bool
 hides_records f last = not (length f.unread.items == 0) || damage_hides f.survey.damage last
 
@@ -55,7 +55,7 @@ pub record IsDamageOf (f : FileSurvey) (d : FileDamage) : Type 0 where
   pub damage : f.survey.damage ≡ Some d.damage
   pub readable : d.readable ≡ f.survey.readable
 
--- the remark holds of a file, behind which come these files
+-- the remark holds of a file, after which come these files
 abbrev pub HoldsOfFile : FileSurvey → List FileSurvey → Remark → Type 0
 HoldsOfFile f later (Unread file unread) = (file ≡ file_of f) × (slice_get f.unread.items 0 ≡ Some unread)
 HoldsOfFile f later (Empty file) = (file ≡ file_of f) × (f.unread.items ≡ []) × (f.survey.damage ≡ None) × (f.bytes ≡ 0) × (f.in_checkpoint ≡ true) × (has_checkpoint_file later ≡ true)
@@ -133,7 +133,7 @@ IsOnNumber (Gap from to in_checkpoint) = Unit {0}
 IsOnNumber (SameNumber file) = Unit {0}
 IsOnNumber other = ⊥
 
--- the remark holds of a file, behind which come these files, and is of this kind
+-- the remark holds of a file, after which come these files, and is of this kind
 abbrev pub HoldsAndIs : (Remark → Type 0) → FileSurvey → List FileSurvey → Remark → Type 0
 HoldsAndIs P f later r = HoldsOfFile f later r × P r
 

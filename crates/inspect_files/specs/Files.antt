@@ -29,7 +29,7 @@ pub record AreFigures (in_checkpoint : Bool) (file : Segment) (unread : List Unr
   pub survey : IsFileSurvey in_checkpoint file s.placed s.figures.survey
   pub unread_are : s.figures.unread.items ≡ unread
 
--- the references that were those of any records are now those of these records behind them, whatever the least valid time m is
+-- the references that were those of any records are now those of these records after them, whatever the least valid time m is
 abbrev pub TakesOn : ReferencesValue → List Placed → ReferencesValue → Type 0
 TakesOn old placed new = (m : ℤ) (before : List Placed) → AreReferencesOf m before old → AreReferencesOf m (before ++ placed) new
 

@@ -9,7 +9,7 @@ use log_directory::PartFile;
 use std::alloc::{AllocError, Global};
 use store::Unread;
 use wal_page::PAGE_SIZE;
-use wal_survey::{References, Survey, survey};
+use wal_survey::{SeenReferences, Survey, survey};
 
 /// What one file of a log holds.
 #[derive(Debug, Drop)]
@@ -56,8 +56,8 @@ pub fn survey_file(
     alloc: Global,
     in_checkpoint: bool,
     part: PartFile,
-    references: References,
-) -> Result<(FileSurvey, References), AllocError>
+    references: SeenReferences,
+) -> Result<(FileSurvey, SeenReferences), AllocError>
     ensures { IfOk result (λ found. HasSurveyed (AreFigures in_checkpoint part.file part.unread.items) found.0 references found.1) }
 {
     let PartFile { file, unread } = part;

@@ -15,7 +15,7 @@ use std::alloc::{AllocError, Global};
 use std::path::Path;
 use store::{Store, join};
 use wal_log::{Named, segment_number};
-use wal_survey::{References, Unbound};
+use wal_survey::{SeenReferences, Unbound};
 
 /// What the files of the log in a directory hold.
 #[derive(Debug, Drop)]
@@ -79,8 +79,8 @@ fn survey_in<S: Store>(
     dir: &str,
     in_checkpoint: bool,
     named: &Named<'_>,
-    references: References,
-) -> Result<(FileSurvey, References), AllocError>
+    references: SeenReferences,
+) -> Result<(FileSurvey, SeenReferences), AllocError>
     ensures { IfOk result (λ found. HasSurveyed (IsSurveyIn (view_of (S.holds store.now)) dir.now in_checkpoint (name_of named.now)) found.0 references found.1) }
 {
     let part = read_listed(alloc, store, dir, named)?;
@@ -94,8 +94,8 @@ fn survey_files<S: Store>(
     dir: &str,
     in_checkpoint: bool,
     names: &[Named<'_>],
-    references: References,
-) -> Result<(Vec<FileSurvey>, References), AllocError>
+    references: SeenReferences,
+) -> Result<(Vec<FileSurvey>, SeenReferences), AllocError>
     ensures { IfOk result (λ found. HaveSurveyed (AreSurveysIn (view_of (S.holds store.now)) dir.now in_checkpoint (map name_of names.now)) found.0.items references found.1) }
 {
     let mut files = Vec::new(alloc);
@@ -113,8 +113,8 @@ fn survey_folder<S: Store>(
     alloc: Global,
     store: &S,
     dir: &str,
-    references: References,
-) -> Result<(Vec<FileSurvey>, References), Fault>
+    references: SeenReferences,
+) -> Result<(Vec<FileSurvey>, SeenReferences), Fault>
     ensures { IfOk result (λ found. HaveSurveyed (AreFolderSurveys (view_of (S.holds store.now)) dir.now) found.0.items references found.1) }
 {
     let names = names_in(alloc, store, dir)?;
@@ -129,8 +129,8 @@ fn survey_checkpoint<S: Store>(
     store: &S,
     dir: &str,
     named: Option<Named<'_>>,
-    references: References,
-) -> Result<(Vec<FileSurvey>, References), Fault>
+    references: SeenReferences,
+) -> Result<(Vec<FileSurvey>, SeenReferences), Fault>
     ensures { IfOk result (λ found. HaveSurveyed (AreCheckpointSurveys (view_of (S.holds store.now)) dir.now (option_map name_of named.entry)) found.0.items references found.1) }
 {
     let Some(named) = named else {
@@ -146,8 +146,8 @@ fn survey_listed<S: Store>(
     store: &S,
     dir: &str,
     listing: &Listing<'_>,
-    references: References,
-) -> Result<(Vec<FileSurvey>, References), Fault>
+    references: SeenReferences,
+) -> Result<(Vec<FileSurvey>, SeenReferences), Fault>
     ensures { IfOk result (λ found. HaveSurveyed (AreListedSurveys (view_of (S.holds store.now)) dir.now (option_map name_of listing.now.checkpoint) (map name_of listing.now.segments.items)) found.0.items references found.1) }
 {
     let (mut files, references) = survey_checkpoint(
@@ -183,7 +183,7 @@ pub fn inspect_log<S: Store>(
 {
     let names = names_in(alloc, store, dir)?;
     let listing = list_log(alloc, &names)?;
-    let references = References::new(alloc, store.seed(), min_valid);
+    let references = SeenReferences::new(alloc, store.seed(), min_valid);
     let (files, references) = survey_listed(alloc, store, dir, &listing, references)?;
     let checkpoint = listing.checkpoint.map(|named| named.number);
     Ok(Inspection {

@@ -5,7 +5,7 @@ use Rattle.std.proofs.lemmas.List.{flat_map_more, take_more}
 use Rattle.std.proofs.lemmas.Option.{get_or_from_slice_get, slice_get_within}
 
 module _ {X : Type 0} (line : X → List ℕ) (xs : List X) (i : ℕ) where
-  -- the line of the next one is behind those so far
+  -- the line of the next one is after those so far
   pub lines_more : (d : X) (old before after : List ℕ) → i < length xs → before ≡ old ++ flat_map line (take i xs) → after ≡ before ++ line (get_or xs i d) → after ≡ old ++ flat_map line (take (i + 1) xs)
   lines_more d old before after within so_far is =
       is

@@ -33,7 +33,7 @@ damage_line (Some (Lost parts)) = number_line (codes "lost", parts)
 
 -- ---- counts
 
--- the counts of a log, with its number of series behind that of series entries
+-- the counts of a log, with its number of series after that of series entries
 abbrev pub counts_text : Counts → ℕ → List ℕ
 counts_text c series = numbers_text (
     (codes "series_records", c.series_records) ∷ (codes "sample_records", c.sample_records) ∷ (codes "stone_records", c.stone_records) ∷ (codes "skipped_records", c.skipped_records)

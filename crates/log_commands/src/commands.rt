@@ -119,7 +119,7 @@ fn execute<R: Threads + Wait + Sync, S: Store, P: Progress + Sync>(
 /// Carries out a request, which changes nothing in the store: prints what the log in a directory holds, in the form that is asked for, up to its
 /// damage if it is damaged.
 /// `progress` hears how far a replay is.
-pub fn carry_out<R: Threads + Wait + Sync, S: Store, P: Progress + Sync>(
+pub fn carry_out_log_request<R: Threads + Wait + Sync, S: Store, P: Progress + Sync>(
     rt: &R,
     alloc: Global,
     store: &S,

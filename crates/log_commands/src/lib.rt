@@ -4,4 +4,4 @@
 mod commands;
 mod report;
 
-pub use commands::carry_out;
+pub use commands::carry_out_log_request;

@@ -132,7 +132,7 @@ is_there : Option File → Bool
 is_there None = false
 is_there (Some file) = true
 
--- where a path leads to nothing, nothing stood there
+-- where a path leads to nothing, nothing was there
 pub not_there : (standing : Option (List ℕ)) (path : List ℕ) → option_map (λ _. Old path) standing ≡ None → standing ≡ None
 unfolding is_there
 not_there None path is = refl

@@ -206,7 +206,7 @@ module _ (before : Standing) (parent path unfinished : List ℕ) (dirs : List (L
   abbrev stood : List ℕ → Option File
   stood name = option_map (λ _. Old name) (before name)
 
-  -- the path leads to what stood there
+  -- the path leads to what was there
   abbrev IsOld : List ℕ → Disk → Type 0
   IsOld name disk = disk.names name ≡ stood name ∷ []
 
@@ -279,7 +279,7 @@ module _ (before : Standing) (parent path unfinished : List ℕ) (dirs : List (L
         };
       })
 
-  -- ---- the rename, and behind it
+  -- ---- the rename, and after it
 
   filled_past_rename : (disk : Disk) → IsFilled disk → IsFilled (after disk (Rename unfinished path))
   filled_past_rename disk is = record {
@@ -340,13 +340,13 @@ module _ (before : Standing) (parent path unfinished : List ℕ) (dirs : List (L
         (λ file s. read_synced disk.content (New file.path) file.bytes (left file.path) s.synced (read_name disk leads left file.path (Some (New file.path)) leaves s.leads)) filled.files_settled;
   }
 
-  -- a path that leads to what stood there reads as it did
+  -- a path that leads to what was there reads as it did
   old_left : (made : List Call) (leads : List ℕ → Option File) (left : Standing) (name : List ℕ) → MayLeave (after_all (disk_of before) made) leads left → IsOld name (after_all (disk_of before) made) → left name ≡ before name
   old_left made leads left name leaves old =
       let disk = after_all (disk_of before) made in
       read_old disk.content name (before name) (left name) (olds_kept made (disk_of before) name) (read_name disk leads left name (stood name) leaves old)
 
-  -- what stood at the path stands there, or the whole folder, where nothing stood at the unfinished one
+  -- what was at the path is there, or the whole folder, where nothing was at the unfinished one
   abbrev IsOldOrFolder : (List ℕ → Option File) → Standing → Type 0
   IsOldOrFolder leads left = (left path ≡ before path) ⊎ ((before unfinished ≡ None) × IsWholeFolder path unfinished dirs files leads left)
 
@@ -400,7 +400,7 @@ module _ (before : Standing) (parent path unfinished : List ℕ) (dirs : List (L
         ((λ disk has. synced_one (is_in parent name) (disk.names name) (stood name) has), tt),
       )
 
-  -- A crash at any moment leaves what stood there, or the whole folder.
+  -- A crash at any moment leaves what was there, or the whole folder.
   pub any_moment : (made : List Call) → AreFirst made (new_folder parent path unfinished dirs files) → CanTakeAll (disk_of before) made → (leads : List ℕ → Option File) (left : Standing)
       → MayLeave (after_all (disk_of before) made) leads left → LeavesOldOrFolder path unfinished dirs files before leads left
   any_moment made first can leads left leaves =
@@ -412,14 +412,14 @@ module _ (before : Standing) (parent path unfinished : List ℕ) (dirs : List (L
         leads_as = λ name apart. leads_to (after_all (disk_of before) made) leads left name (stood name) leaves (kept name apart);
       }
 
-  -- A crash at a moment before the rename leaves what stood there.
+  -- A crash at a moment before the rename leaves what was there.
   pub before_rename : (made : List Call) → AreFirst made (unfinished_folder unfinished dirs files) → CanTakeAll (disk_of before) made → (leads : List ℕ → Option File) (left : Standing)
       → MayLeave (after_all (disk_of before) made) leads left → LeavesOld path unfinished dirs files before leads left
   before_rename made first can leads left leaves =
       let either = any_moment made (are_first_of_more made early late first) can leads left leaves in
       record { folder = old_left made leads left path leaves (path_old made first); others = either.others; leads_as = either.leads_as }
 
-  -- A crash behind all of it leaves the whole folder.
+  -- A crash after all of it leaves the whole folder.
   pub acknowledged : is_in parent path ≡ true → (made : List Call) → AreAll made (new_folder parent path unfinished dirs files) → CanTakeAll (disk_of before) made → (leads : List ℕ → Option File) (left : Standing)
       → MayLeave (after_all (disk_of before) made) leads left → LeavesFolder path unfinished dirs files before leads left
   acknowledged inside made all can leads left leaves =

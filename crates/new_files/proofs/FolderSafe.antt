@@ -67,7 +67,7 @@ module _ {S : Type 0} (did : S → List Call → S → Type 0) (parent path unfi
   then_finished did_both old filled new result begun finished =
       subst (λ (all : List Call). Follows did old all result new) (in_parts parent path unfinished dirs files) (then_follows did did_both old filled new (begun_with unfinished dirs files) (finishing parent path unfinished dirs) result begun finished)
 
-  -- A folder that was begun and not finished left at the path what stood there.
+  -- A folder that was begun and not finished left at the path what was there.
   pub left_unfinished : (old new : S) → length path < length unfinished → AreInside unfinished dirs files → DidFirst did old (begun_with unfinished dirs files) new
       → IsCrashSafe did old (LeavesOld path unfinished dirs files) (LeavesOld path unfinished dirs files) ⊥ new
   left_unfinished old new shorter of part =

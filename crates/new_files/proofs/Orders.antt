@@ -133,7 +133,7 @@ exactly made [] none_removes none = none
 exactly made (call ∷ p) (keeps, none_removes) (inl (rest, is, all)) = is ∙ ap (λ r. call ∷ r) (exactly rest p none_removes all)
 exactly made (call ∷ p) (keeps, none_removes) (inr (removal, all)) = absurd (keeps removal)
 
--- what holds of a result holds of it where its fault is told in other words
+-- what holds of a result holds of it where its fault is reported in other words
 pub told : {T E F : Type 0} (P Q : Type 0) (outcome : Result T E) (result : Result T F) → ((value : T) → result ≡ Ok value → outcome ≡ Ok value) → (IsErr result → IsErr outcome)
     → MatchResult outcome (λ _. P) (λ _. Q) → MatchResult result (λ _. P) (λ _. Q)
 told P Q outcome (Ok value) ok err has = subst (λ r. MatchResult r (λ _. P) (λ _. Q)) (ok value refl) has
@@ -186,7 +186,7 @@ first_removed (x ∷ a) b (call ∷ p) (removal, removals) (inl (rest, is, all))
     inl (a, ap (λ c. c ∷ a) (same_first x call (a ++ b) rest is), first_removed a b p removals (subst (λ r. AreAll r p) (sym (same_others x call (a ++ b) rest is)) all))
 first_removed (x ∷ a) b (call ∷ p) (removal, removals) (inr (skipped, all)) = inr (skipped, first_removed (x ∷ a) b p removals all)
 
--- where two lists are one, the one ends within the first part of the other or behind it
+-- where two lists are one, the one ends within the first part of the other or after it
 pub ends_within : (x y a b : List Call) → x ++ y ≡ a ++ b → ((c : List Call) × (x ≡ a ++ c)) ⊎ ((c : List Call) × (a ≡ x ++ c) × (y ≡ c ++ b))
 ends_within [] y a b is = inr (a, refl, is)
 ends_within (call ∷ x) y [] b is = inl (call ∷ x, refl)

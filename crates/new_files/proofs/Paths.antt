@@ -54,7 +54,7 @@ not_slash byte bytes has is = absurd (true≢false (sym (and_front (not (byte ==
   and_front true b has = refl
   and_front false b has = absurd has
 
--- a name is relative, so it stands behind the directory
+-- a name is relative, so it is after the directory
 pub joined : (dir name : List ℕ) → IsName name → path_join dir name ≡ with_separator dir ++ name
 joined dir [] is = absurd (omega (arith, is.some))
 joined dir (byte ∷ bytes) is = path_join_relative dir (byte ∷ bytes) (not_slash byte bytes is.no_slash)

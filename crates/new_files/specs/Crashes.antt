@@ -3,7 +3,7 @@ use Rattle.std.specs.Prelude.{◌≡◌, List, ◌++◌, Option, ℕ}
 use Rattle.store.specs.Calls.{Call}
 use Rattle.store.specs.Disk.{CanTakeAll, File, MayLeave, Standing, after_all, disk_of}
 
--- P of what stood before these calls, of what a crash after them may leave, and of what its paths lead to
+-- P of what was before these calls, of what a crash after them may leave, and of what its paths lead to
 abbrev pub AfterCrash : (Standing → (List ℕ → Option File) → Standing → Type 0) → List Call → Type 0
 AfterCrash P calls = (before left : Standing) (leads : List ℕ → Option File) → CanTakeAll (disk_of before) calls → MayLeave (after_all (disk_of before) calls) leads left → P before leads left
 

@@ -31,11 +31,11 @@ Makes did old parent path unfinished bytes result new = MatchResult result
     (λ _. DidAll did old (new_file parent path unfinished bytes) new)
     (λ _. (made : List Call) × did old made new × IsGivenUp parent path unfinished bytes made)
 
--- At the path stands what stood there, or an empty file, or one with these bytes; and all else as before, but for the unfinished file.
+-- At the path is what was there, or an empty file, or one with these bytes; and all else as before, but for the unfinished file.
 pub record LeavesOldOrFile (path unfinished bytes : List ℕ) (before : Standing) (leads : List ℕ → Option File) (left : Standing) : Type 0 where
   pub file : (left path ≡ before path) ⊎ ((left path ≡ Some []) ⊎ (left path ≡ Some bytes))
   pub others : AreLeft (path ∷ unfinished ∷ []) before left
 
--- At the path stands a file with these bytes, where nothing stood before.
+-- At the path is a file with these bytes, where nothing was before.
 pub record LeavesFile (path bytes : List ℕ) (before : Standing) (leads : List ℕ → Option File) (left : Standing) : Type 0 where
   pub file : left path ≡ Some bytes

@@ -42,7 +42,7 @@ unfinished_folder unfinished dirs files = (CreateDir unfinished ∷ create_dirs 
 abbrev pub new_folder : List ℕ → List ℕ → List ℕ → List (List ℕ) → List FileAt → List Call
 new_folder parent path unfinished dirs files = unfinished_folder unfinished dirs files ++ Rename unfinished path ∷ SyncDir parent ∷ []
 
--- The path leads to the folder that was created as the unfinished one and stands there, with no bytes, as a directory has none; each
+-- The path leads to the folder that was created as the unfinished one and is there, with no bytes, as a directory has none; each
 -- directory and each file in it is whole. Their paths are still those of the unfinished folder.
 pub record IsWholeFolder (path unfinished : List ℕ) (dirs : List (List ℕ)) (files : List FileAt) (leads : List ℕ → Option File) (left : Standing) : Type 0 where
   pub folder : leads path ≡ Some (New unfinished)
@@ -54,18 +54,18 @@ pub record IsWholeFolder (path unfinished : List ℕ) (dirs : List (List ℕ)) (
 abbrev pub changed_paths : List ℕ → List ℕ → List (List ℕ) → List FileAt → List (List ℕ)
 changed_paths path unfinished dirs files = path ∷ unfinished ∷ dirs ++ map (λ (file : FileAt). file.path) files
 
--- At the path stands what stood there, or the whole folder, where nothing stood at the unfinished one; and all else as before, but for the
+-- At the path is what was there, or the whole folder, where nothing was at the unfinished one; and all else as before, but for the
 -- unfinished folder.
 pub record LeavesOldOrFolder (path unfinished : List ℕ) (dirs : List (List ℕ)) (files : List FileAt) (before : Standing) (leads : List ℕ → Option File) (left : Standing) : Type 0 where
   pub folder : (left path ≡ before path) ⊎ ((before unfinished ≡ None) × IsWholeFolder path unfinished dirs files leads left)
   pub others : AreLeft (changed_paths path unfinished dirs files) before left
   pub leads_as : LeadAsBefore (changed_paths path unfinished dirs files) before leads
 
--- At the path stands the whole folder.
+-- At the path is the whole folder.
 pub record LeavesFolder (path unfinished : List ℕ) (dirs : List (List ℕ)) (files : List FileAt) (before : Standing) (leads : List ℕ → Option File) (left : Standing) : Type 0 where
   pub folder : IsWholeFolder path unfinished dirs files leads left
 
--- At the path stands what stood there; and all else as before, but for the unfinished folder.
+-- At the path is what was there; and all else as before, but for the unfinished folder.
 pub record LeavesOld (path unfinished : List ℕ) (dirs : List (List ℕ)) (files : List FileAt) (before : Standing) (leads : List ℕ → Option File) (left : Standing) : Type 0 where
   pub folder : left path ≡ before path
   pub others : AreLeft (changed_paths path unfinished dirs files) before left

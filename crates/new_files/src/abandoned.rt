@@ -26,7 +26,7 @@ fn clear<S: Store>(alloc: Global, store: &mut S, dir: &str, name: &str)
 }
 
 /// Removes from the directory of a log the unfinished files of segments that no run writes any more: a run that is killed leaves one beside its
-/// empty segment. The segment stays, since a later one may stand behind it. Nothing else is changed, and what cannot be read or removed is
+/// empty segment. The segment stays, since a later one may stand after it. Nothing else is changed, and what cannot be read or removed is
 /// left.
 pub fn clear_abandoned<S: Store>(alloc: Global, store: &mut S, dir: &str)
     ensures { Clears S.did store.old dir.now store.new }

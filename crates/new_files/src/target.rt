@@ -4,7 +4,7 @@ use std::alloc::{AllocError, Global};
 use std::marker::Model;
 use store::join;
 
-/// A name in a directory, and the name with `.tmp` behind it, under which a file or a folder is written before it is whole.
+/// A name in a directory, and the name with `.tmp` after it, under which a file or a folder is written before it is whole.
 #[derive(Debug, Drop)]
 pub struct Target<'a> {
     parent: &'a str,
@@ -59,7 +59,7 @@ impl<'a> Target<'a> {
         &self.path
     }
 
-    /// Borrows the path at which it is written: its own with `.tmp` behind it.
+    /// Borrows the path at which it is written: its own with `.tmp` after it.
     pub fn unfinished(&self) -> &str
         ensures path { result.now ≡ self.now.unfinished }
         ensures behind { self.now.unfinished ≡ unfinished_of self.now.path }

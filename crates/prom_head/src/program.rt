@@ -9,7 +9,7 @@ use answers::{AnalyzeRequest, Answer, Fault, LineFault, Status};
 use block_commands::carry_out_block;
 use command_line::{Asked, CommandLine, parse};
 use inspect_command::carry_out_inspect;
-use log_commands::carry_out;
+use log_commands::carry_out_log_request;
 use log_directory::min_valid_of;
 use new_files::clear_abandoned;
 use progress::Progress;
@@ -34,7 +34,7 @@ fn carried_out<R: AllocGlobal + Threads + Wait + Sync, S: Store, P: Progress + S
 ) -> Answer {
     let alloc = rt.alloc();
     match asked {
-        Asked::OfLog(request) => carry_out(rt, alloc, store, progress, request),
+        Asked::OfLog(request) => carry_out_log_request(rt, alloc, store, progress, request),
         Asked::Inspect(request) => carry_out_inspect(alloc, store, request),
         Asked::Analyze(request) => {
             let request = AnalyzeRequest { bars, ..request };

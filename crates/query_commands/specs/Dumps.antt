@@ -12,7 +12,7 @@ use Rattle.answers.specs.Spellings.{pair_text}
 use Rattle.query_commands.specs.declared.selection.Selection.{Selection}
 use Rattle.query_commands.specs.Selections.{shown_of}
 
--- labels, a space behind each
+-- labels, a space after each
 abbrev pub labels_text : Labels → List ℕ
 labels_text labels = flat_map (λ l. pair_text l.name l.value ++ 32 ∷ []) labels
 
@@ -21,25 +21,25 @@ abbrev pub SpellsValue : Bool → ℤ → List ℕ → Type 0
 SpellsValue true value word = Reads word value
 SpellsValue false value word = word ≡ signed_decimal value
 
--- the line of a sample, behind the labels of its series: its time and its value
+-- the line of a sample, after the labels of its series: its time and its value
 pub record IsLine (floats : Bool) (labels : List ℕ) (s : Sample) (line : List ℕ) : Type 0 where
   pub word : List ℕ
   pub value : SpellsValue floats s.value word
   pub is : line ≡ labels ++ (signed_decimal s.time ++ (32 ∷ (word ++ 10 ∷ [])))
 
--- the new text is the old one with the word of the value behind it
+-- the new text is the old one with the word of the value after it
 pub record AppendsValue (floats : Bool) (value : ℤ) (old new : List ℕ) : Type 0 where
   pub word : List ℕ
   pub spelled : SpellsValue floats value word
   pub is : new ≡ old ++ word
 
--- the new text is the old one with the line of the sample behind it
+-- the new text is the old one with the line of the sample after it
 pub record AppendsLine (floats : Bool) (labels : List ℕ) (s : Sample) (old new : List ℕ) : Type 0 where
   pub line : List ℕ
   pub of : IsLine floats labels s line
   pub is : new ≡ old ++ line
 
--- the new text is the old one with a line behind it for each of these samples, each with the text of its labels
+-- the new text is the old one with a line after it for each of these samples, each with the text of its labels
 pub record AppendsLines (floats : Bool) (samples : List (List ℕ × Sample)) (old new : List ℕ) : Type 0 where
   pub lines : List (List ℕ)
   pub each : AllZip (λ p line. IsLine floats p.0 p.1 line) samples lines

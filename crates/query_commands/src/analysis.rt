@@ -2,7 +2,7 @@
 
 use crate::bars::{push_figures, width_of};
 use answers::{push_pair, push_spelled};
-use head_ranks::{LabelCount, NameCount, Totals, rank_by_samples, rank_by_series, rank_names};
+use head_ranks::{HeadTotals, LabelCount, NameCount, rank_by_samples, rank_by_series, rank_names};
 use std::alloc::{AllocError, Global};
 
 /// How the lists of an analysis are printed.
@@ -118,12 +118,12 @@ fn push_names(
 // Appends a line for each number.
 fn push_numbers(
     text: &mut String,
-    totals: &Totals,
+    totals: &HeadTotals,
     metrics: usize,
     names: usize,
     labels: usize,
 ) -> Result<(), AllocError> {
-    let Totals { series, samples } = *totals;
+    let HeadTotals { series, samples } = *totals;
     writeln!(text, "series {series}\nsamples {samples}")?;
     writeln!(text, "metrics {metrics}\nnames {names}\nlabels {labels}")
 }
@@ -132,7 +132,7 @@ fn push_numbers(
 fn push_metrics(
     text: &mut String,
     metrics: &mut [LabelCount<'_>],
-    totals: &Totals,
+    totals: &HeadTotals,
     layout: Layout,
 ) -> Result<(), AllocError> {
     rank_by_series(metrics);
@@ -156,7 +156,7 @@ fn push_metrics(
 /// Returns the text of an analysis: its numbers, and the lists of names, metrics and labels, those with the greatest figures first.
 pub(crate) fn analysis_text(
     alloc: Global,
-    totals: &Totals,
+    totals: &HeadTotals,
     names: &mut [NameCount<'_>],
     metrics: &mut [LabelCount<'_>],
     labels: &mut [LabelCount<'_>],

@@ -1,6 +1,6 @@
 -- Outcomes counted one after another.
 use Rattle.std.proofs.Common.{◌≡◌, ℕ, suc, ◌+◌, ◌<◌, ◌^◌, Bool, List, [], ◌∷◌, ◌++◌, length, take, drop, refl, sym, ap, subst, ◌∙◌, arith, append_assoc}
-use Rattle.std.specs.Prelude.{map, count_by, cond, slice_index_or}
+use Rattle.std.specs.Prelude.{map, count_by, cond, slice_index_or, Err, Ok, OnErr, Result}
 use Rattle.std.specs.List.{flat_map}
 use Rattle.std.proofs.lemmas.Grind.{flat_map-append}
 use Rattle.std.proofs.lemmas.List.{map-append, take-append-drop, drop_more, flat_map_more, take_more}
@@ -159,7 +159,7 @@ pub parts_more : {P : Type 0} (f : P → List Outcome) (before : List Outcome) (
     → (before ++ flat_map f (take i ps)) ++ f (slice_index_or ps i p) ≡ before ++ flat_map f (take (i + 1) ps)
 parts_more {P} f before ps i p lt = flat_map_more f before (take i ps) (slice_index_or ps i p) ∙ ap (λ (qs : List P). before ++ flat_map f qs) (sym (take_more ps i p lt))
 
--- those of all parts are those before a part, its own, and those behind it
+-- those of all parts are those before a part, its own, and those after it
 pub parts_split : {P : Type 0} (f : P → List Outcome) (before more : List Outcome) (ps : List P) (i : ℕ) (p : P) → i < length ps
     → (before ++ flat_map f ps) ++ more ≡ ((before ++ flat_map f (take i ps)) ++ f (slice_index_or ps i p)) ++ (flat_map f (drop (i + 1) ps) ++ more)
 parts_split {P} f before more ps i p lt =
@@ -169,3 +169,8 @@ parts_split {P} f before more ps i p lt =
     ∙ ap (λ (os : List Outcome). os ++ more) (sym (append_assoc before (flat_map f (take (i + 1) ps)) rest))
     ∙ ap (λ (os : List Outcome). (os ++ rest) ++ more) (sym (parts_more f before ps i p lt))
     ∙ append_assoc ((before ++ flat_map f (take i ps)) ++ f (slice_index_or ps i p)) rest more
+
+-- what holds anyway holds where there is an error
+pub on_err_always : {T E P : Type 0} (r : Result T E) → P → OnErr r P
+on_err_always (Ok x) p = tt
+on_err_always (Err e) p = p

@@ -11,7 +11,7 @@ pub all_behind : {A : Type 0} (P : A → Type 0) (xs ys : List A) → All P (xs 
 all_behind P [] ys h = h
 all_behind P (x ∷ xs) ys h = all_behind P xs ys (λ i d lt. h (suc i) d (omega (arith, lt)))
 
--- the first so many, and those behind them
+-- the first so many, and those after them
 pub all_take : {A : Type 0} (P : A → Type 0) (n : ℕ) (xs : List A) → AllByRecursion P xs → AllByRecursion P (take n xs)
 all_take P zero xs h = tt
 all_take P (suc n) [] h = tt

@@ -23,7 +23,7 @@ samples_bind_nothing (r ∷ rs) h =
     ∙ ap (λ (bs : List Binding). bs ++ bindings (entries_of rs)) (ap (λ (s : WalRecord). bindings (entries_in s)) h.0.1 ∙ none_bound h.0.0)
     ∙ samples_bind_nothing rs h.1
 
--- the contents of three parts, behind others
+-- the contents of three parts, after others
 pub parts_behind : (back : List WalRecord) (page before samples behind : List Placed) → page ≡ before ++ (samples ++ behind)
     → ((back ++ contents before) ++ contents samples) ++ contents behind ≡ back ++ contents page
 parts_behind back page before samples behind are =

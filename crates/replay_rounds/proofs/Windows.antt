@@ -74,7 +74,7 @@ made_of_shares none resolver changes workers given jobs pages made same all plac
     (subst (λ (ms : List Spreading). AreMadeOf resolver.min_valid (slots_of resolver changes) given 0 (records_of (flat_map (λ job. job.pages.items) jobs)) ms) (sym is)
     (all_made_of none resolver changes given 0 jobs after placed fresh done)))
 
--- one job more is placed, behind the records of all before it
+-- one job more is placed, after the records of all before it
 pub placed_push : (n : ℕ) (jobs : List SpreadJob) (job : SpreadJob) → ArePlaced n jobs → job.place ≡ n + length (records_of (flat_map (λ j. j.pages.items) jobs)) → ArePlaced n (jobs ++ job ∷ [])
 placed_push n [] job placed at = let first : job.place ≡ n = omega (arith, at) in (first, tt)
 placed_push n (j ∷ jobs) job placed at =
@@ -94,13 +94,13 @@ records_push_job jobs job =
     ∙ ap (λ (rs : List Placed). length rs) (flat_map-append (λ (rs : List Placed). rs) (pages jobs) job.pages.items)
     ∙ length-append (records_of (pages jobs)) (records_of job.pages.items)
 
--- what the records of one page more say, behind others
+-- what the records of one page more say, after others
 pub contents_pushed : (rs : List WalRecord) (pages : List (List Placed)) (records : List Placed) → (rs ++ contents (records_of pages)) ++ contents records ≡ rs ++ contents (records_of (pages ++ records ∷ []))
 contents_pushed rs pages records =
     append_assoc rs (contents (records_of pages)) (contents records)
     ∙ ap (λ (ss : List WalRecord). rs ++ ss) (sym (contents_both (records_of pages) records) ∙ ap contents (sym (records_push pages records)))
 
--- what all records say: those of some pages, of the next one, and of the pages behind it
+-- what all records say: those of some pages, of the next one, and of the pages after it
 pub contents_split : (rs : List WalRecord) (pages : List (List Placed)) (records : List Placed) (later : List (List Placed))
     → rs ++ contents (records_of (pages ++ records ∷ later)) ≡ ((rs ++ contents (records_of pages)) ++ contents records) ++ contents (records_of later)
 contents_split rs pages records later =

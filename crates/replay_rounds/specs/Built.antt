@@ -1,4 +1,4 @@
--- What is built as it stands: words of the crate's contracts, and of those above it.
+-- What is built so far: words of the crate's contracts, and of those above it.
 use Rattle.std.specs.Prelude.{◌≡◌, ◌++◌, ◌<◌, ◌^◌, ℕ, ℤ, List, [], false, length, replicate}
 use Rattle.std.specs.List.{enumerate_from}
 use Rattle.wal_record.specs.declared.record.WalRecord.{WalRecord}

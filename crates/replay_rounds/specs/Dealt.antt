@@ -1,4 +1,4 @@
--- Rounds as they stand: words of the crate's contracts, and of those above it.
+-- Rounds so far: words of the crate's contracts, and of those above it.
 use Rattle.std.specs.Prelude.{ℕ, List}
 use Rattle.head_column.specs.declared.items.Item.{Item}
 use Rattle.head_column.specs.declared.items.Outcome.{Outcome}

@@ -11,7 +11,7 @@ use Rattle.head_resolver.specs.Changes.{slot_before, Change}
 use Rattle.head_resolver.specs.Resolved.{ResolverValue}
 use Rattle.replay_rounds.specs.Records.{records_of}
 use Rattle.replay_rounds.specs.Windows.{IsFresh}
-use Rattle.replay_rounds.specs.declared.window.Sharing.{Sharing}
+use Rattle.replay_rounds.specs.declared.window.SharedWindow.{SharedWindow}
 use Rattle.replay_rounds.specs.declared.spreading.SpreadJob.{SpreadJob}
 use Rattle.replay_rounds.specs.declared.spreading.Spreading.{Spreading}
 
@@ -23,12 +23,12 @@ slots_of resolver changes = slot_before changes (slot_at resolver.table)
 abbrev pub IsFreshJob : ResolverValue → List Change → ℕ → SpreadJob → Type 0
 IsFreshJob resolver changes workers job = (job.resolver.now ≡ resolver) × (job.changes.now ≡ changes) × IsFresh workers job.made
 
--- the first job has the records from the place n on, and each other one those behind the one before it
+-- the first job has the records from the place n on, and each other one those after the one before it
 abbrev pub ArePlaced : ℕ → List SpreadJob → Type 0
 ArePlaced n [] = Unit {0}
 ArePlaced n (job ∷ jobs) = (job.place ≡ n) × ArePlaced (n + length (records_of job.pages.items)) jobs
 
--- the records of the job's pages were spread behind those before
+-- the records of the job's pages were spread after those before
 abbrev pub HasSpread : SpreadJob → SpreadJob → Type 0
 HasSpread old new =
     ((first : ℕ) (rs : List WalRecord) → AreSpreadAt old.resolver.now.min_valid (slots_of old.resolver.now old.changes.now) first rs old.made.spread.items old.made.counts → old.place ≡ first + length rs
@@ -40,7 +40,7 @@ abbrev pub AreMadeBy : List SpreadJob → List Spreading → Type 0
 AreMadeBy jobs made = (after : List SpreadJob) × AreDone HasSpread jobs after × (made ≡ map (λ job. job.made) after)
 
 -- the first of these pages were shared out: each job is fresh, the jobs have their pages in order, each at its place, and the others are left
-abbrev pub IsShared : ResolverValue → List Change → ℕ → List (List Placed) → Sharing → Type 0
+abbrev pub IsShared : ResolverValue → List Change → ℕ → List (List Placed) → SharedWindow → Type 0
 IsShared resolver changes workers pages sharing =
     AllByRecursion (IsFreshJob resolver changes workers) sharing.jobs.items
     × ArePlaced 0 sharing.jobs.items

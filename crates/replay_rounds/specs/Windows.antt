@@ -14,7 +14,7 @@ IsFresh workers made = (made.spread ≡ record { workers = workers; items = [] }
 abbrev pub IsMadeOf : ℤ → (ℕ → ℕ → Option ℕ) → ℕ → ℕ → List Placed → Spreading → Type 0
 IsMadeOf m slots workers n records made = AreSpreadAt m slots n (contents records) made.spread.items made.counts × (made.spread.workers ≡ workers)
 
--- some of the records, from the place n on, make the first, those behind them the next, and so on
+-- some of the records, from the place n on, make the first, those after them the next, and so on
 abbrev pub AreMadeOf : ℤ → (ℕ → ℕ → Option ℕ) → ℕ → ℕ → List Placed → List Spreading → Type 0
 AreMadeOf m slots workers n records [] = records ≡ []
 AreMadeOf m slots workers n records (made ∷ more) =

@@ -1,7 +1,7 @@
 //! Errors of rounds.
 
 use crew::CrewFault;
-use head_core::HeadFault;
+use head_core::{CountFull, HeadFault};
 use std::alloc::AllocError;
 
 /// An error of rounds. No thread is left running.
@@ -26,6 +26,17 @@ impl From<CrewFault> for RoundFault {
             CrewFault::Memory => RoundFault::Memory,
             CrewFault::Workers => RoundFault::Workers,
         }
+    }
+}
+
+impl From<CountFull> for RoundFault {
+    ghost use Rattle.std.specs.Prelude.{◌≡◌};
+    ghost use Rattle.replay_rounds.specs.declared.fault.RoundFault.TheVariants.{Full};
+
+    ghost from_gives = { λ _ e. e ≡ Full };
+
+    fn from(_error: CountFull) -> RoundFault {
+        RoundFault::Full
     }
 }
 

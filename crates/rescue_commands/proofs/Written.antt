@@ -29,7 +29,7 @@ module _ {S : Type 0} (did : S → List Call → S → Type 0) (holds : S → Li
   -- ---- hour by hour
 
   module _ (P : ℤ → Text → Block → Type 0) where
-    -- the hours behind these
+    -- the hours after these
     pub have_then : (old middle new : S) (first rest : List ℤ) (W : Type 0) → HaveBlocks did holds out P old first ⊤ middle → HaveBlocks did holds out P middle rest W new → HaveBlocks did holds out P old (first ++ rest) W new
     have_then old middle new [] rest W same more = subst (λ (s : S). HaveBlocks did holds out P s rest W new) same more
     have_then old middle new (hour ∷ first) rest W (inl (next, has, have)) more = inl (next, has, have_then next middle new first rest W have more)

@@ -1,6 +1,6 @@
 //! The document that `rescue` prints with `--json`.
 
-use crate::lost::{Stretch, kind_of, records_of, stretch_of, word_of};
+use crate::lost::{LostRange, kind_of, records_of, stretch_of, word_of};
 use crate::report::Rescued;
 use crate::told::{HourBlock, samples_of};
 use log_directory::{FileRead, LostPart, lost_count};
@@ -22,7 +22,7 @@ fn put_stretch(
     part: &LostPart,
 ) -> Result<(), AllocError> {
     let (offset, bytes) = match stretch_of(part) {
-        Some(Stretch { offset, bytes }) => (Some(offset), Some(bytes)),
+        Some(LostRange { offset, bytes }) => (Some(offset), Some(bytes)),
         None => (None, None),
     };
     put(members, alloc, "offset", number_value(offset))?;

@@ -25,7 +25,7 @@ pub(crate) fn kind_of(file: &FileRead) -> &'static str {
 
 /// Where a part is in a file, and how many bytes it has.
 #[derive(Clone, Copy, Debug)]
-pub(crate) struct Stretch {
+pub(crate) struct LostRange {
     pub(crate) offset: u64,
     pub(crate) bytes: u64,
 }
@@ -40,14 +40,14 @@ pub(crate) fn word_of(part: &LostPart) -> &'static str {
 }
 
 /// Returns where a part is, unless the whole file is missing.
-pub(crate) fn stretch_of(part: &LostPart) -> Option<Stretch> {
+pub(crate) fn stretch_of(part: &LostPart) -> Option<LostRange> {
     match part {
         LostPart::Missing => None,
-        LostPart::CannotRead(unread) => Some(Stretch {
+        LostPart::CannotRead(unread) => Some(LostRange {
             offset: unread.offset,
             bytes: unread.bytes,
         }),
-        LostPart::PassedOver(passed) => Some(Stretch {
+        LostPart::PassedOver(passed) => Some(LostRange {
             offset: passed.damage.offset,
             bytes: passed.bytes,
         }),

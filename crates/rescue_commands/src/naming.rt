@@ -36,7 +36,7 @@ pub(crate) fn next_of(ulid: &Ulid) -> Option<Ulid> {
 }
 
 // Returns whether a name, or it with `.tmp` after it, is this one.
-fn takes(name: &str, ulid: &Ulid) -> bool {
+fn is_name_of(name: &str, ulid: &Ulid) -> bool {
     let name = name.as_bytes();
     name.strip_suffix(b".tmp").unwrap_or(name) == ulid.as_bytes()
 }
@@ -47,7 +47,7 @@ pub(crate) fn free_name(first: Ulid, names: &[String]) -> Option<Ulid> {
     let mut ulid = first;
     // each of the names takes one
     for _ in names {
-        if !names.iter().any(|name| takes(name, &ulid)) {
+        if !names.iter().any(|name| is_name_of(name, &ulid)) {
             return Some(ulid);
         }
         ulid = next_of(&ulid)?;

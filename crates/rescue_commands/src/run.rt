@@ -87,7 +87,7 @@ impl<'a> Run<'a> {
     }
 
     /// Returns the name of the next block that is written. Returns `BadUlid` after the last name.
-    pub(crate) fn take_name(&mut self, names: &[String]) -> Result<Ulid, Fault> {
+    pub(crate) fn next_name(&mut self, names: &[String]) -> Result<Ulid, Fault> {
         let Some(first) = self.next else {
             return Err(Fault::BadUlid);
         };
@@ -109,7 +109,7 @@ impl<'a> Run<'a> {
     {
         let mut named = Vec::new(alloc);
         for hour in hours {
-            let ulid = self.take_name(names)?;
+            let ulid = self.next_name(names)?;
             named.push(NamedHour { hour: *hour, ulid })?;
         }
         Ok(named)

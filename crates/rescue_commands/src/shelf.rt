@@ -15,7 +15,7 @@ use std::alloc::Global;
 use std::thread::Threads;
 use store::Store;
 
-/// The directory in which blocks are written, and what stood in it before the first was.
+/// The directory in which blocks are written, and what was in it before the first was.
 pub(crate) struct Shelf<'a> {
     /// The path of the directory.
     pub(crate) out: &'a str,

@@ -1,4 +1,4 @@
-//! The blocks that stand in a directory, by what their meta.json says.
+//! The blocks that are in a directory, by what their meta.json says.
 
 use crate::fault::pass_over;
 use answers::Fault;

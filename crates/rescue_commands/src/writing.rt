@@ -98,7 +98,7 @@ fn write_missing<R: Threads + Sync, S: Store>(
     ensures done { OnOk result (HasBlock S.did S.holds shelf.now.out.now (IsBlockOfHead head.now.content) store.old hour store.new) }
     ensures failed { OnErr result (LeavesHour S.did S.holds shelf.now.out.now head.now.content store.old hour store.new) }
 {
-    let ulid = run.take_name(&shelf.names)?;
+    let ulid = run.next_name(&shelf.names)?;
     let named = cut_hour(rt, alloc, head, hour, ulid)?;
     write_cut(alloc, store, &named, shelf, run)
 }

@@ -24,7 +24,7 @@ before_one (suc n) = Some n
 abbrev pub slot_of : ReferenceSlotsValue → ℕ → Option ℕ
 slot_of o r = if nat_lt r low_end then before_one (slice_index o.low r) else lookup (nat_eq r) o.high
 
--- the references from n on with their slots, where these stand in a list
+-- the references from n on with their slots, where these are in a list
 abbrev pub low_pairs : ℕ → List ℕ → List (ℕ × ℕ)
 low_pairs n [] = []
 low_pairs n (zero ∷ more) = low_pairs (suc n) more

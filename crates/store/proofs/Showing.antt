@@ -22,7 +22,7 @@ neither false false false false p q = refl
 wide : (byte : ℕ) → 127 < byte → is_ascii_control byte ≡ false
 wide byte far = neither (nat_le 0 byte) (nat_le byte 31) (nat_le 127 byte) (nat_le byte 127) (lt-leb byte 31 (omega (arith, far))) (lt-leb byte 127 far)
 
--- and what is behind it is shown after it
+-- and what is after it is shown after it
 behind : (byte : ℕ) (bytes : List ℕ) → is_ascii_control byte ≡ false → shown bytes ≡ bytes → shown (byte ∷ bytes) ≡ byte ∷ bytes
 behind byte bytes plain rest = ap (λ (front : List ℕ). front ++ shown bytes) (as_itself byte plain) ∙ ap (λ (bs : List ℕ). byte ∷ bs) rest
 

@@ -17,7 +17,7 @@ zipped_place R xs ys i d y within there h r =
     subst (λ zs. AllZip R (take (i + 1) xs) zs) (sym (ap (λ n. take n (set ys i y)) (add-one i) ∙ take-suc-set ys i y there))
     (subst (λ ws. AllZip R ws (take i ys ++ y ∷ [])) (sym (take_more xs i d within)) (all_zipped_more R (take i xs) (take i ys) (get_or xs i d) y h r))
 
--- two parts, one behind the other
+-- two parts, one after the other
 pub both_zipped : {A B : Type 0} (R : A → B → Type 0) (xs more : List A) (ys others : List B) → AllZip R xs ys → AllZip R more others → AllZip R (xs ++ more) (ys ++ others)
 both_zipped R [] more [] others h k = k
 both_zipped R [] more (y ∷ ys) others h k = absurd h
@@ -79,7 +79,7 @@ module _ (gave : List ℕ → Result (Vec ℕ Global) StoreFault → Type 0) whe
   given_ok (Ok read) paths files each is = given_all paths read.items (subst (λ fs. AllZip Gives paths fs) is each)
   given_ok (Err e) paths files each is = tt
 
-  -- the one behind some that were read is at the place
+  -- the one after some that were read is at the place
   at_place : (paths : List (String Global)) (read : List (Vec ℕ Global)) (it : Result (Vec ℕ Global) StoreFault) (rest : List (Result (Vec ℕ Global) StoreFault)) → AllZip Gives paths (map Ok read ++ it ∷ rest) → (length read < length paths) × HoldsAt (λ path. Gives path it) paths (length read)
   at_place [] [] it rest h = absurd h
   at_place [] (b ∷ read) it rest h = absurd h

@@ -81,7 +81,7 @@ CanTakeAll disk (call ∷ calls) = CanTake disk call × CanTakeAll (after disk c
 abbrev pub Standing : Type 0
 Standing = List ℕ → Option (List ℕ)
 
--- a disk on which just this stands
+-- a disk on which just this is
 abbrev pub disk_of : Standing → Disk
 disk_of standing = record {
   names = λ path. option_map (λ _. Old path) (standing path) ∷ [];
@@ -103,10 +103,10 @@ MayRead content (Some file) left = (bytes : List ℕ) × (left ≡ Some bytes) �
 abbrev pub MayLeave : Disk → (List ℕ → Option File) → Standing → Type 0
 MayLeave disk leads left = (path : List ℕ) → IsAmong (disk.names path) (leads path) × MayRead disk.content (leads path) (left path)
 
--- what stood at all paths but these stands there
+-- what was at all paths but these is there
 abbrev pub AreLeft : List (List ℕ) → Standing → Standing → Type 0
 AreLeft changed before left = (path : List ℕ) → AllByRecursion (λ other. path ≡ other → ⊥) changed → left path ≡ before path
 
--- all paths but these lead to what stood there
+-- all paths but these lead to what was there
 abbrev pub LeadAsBefore : List (List ℕ) → Standing → (List ℕ → Option File) → Type 0
 LeadAsBefore changed before leads = (path : List ℕ) → AllByRecursion (λ other. path ≡ other → ⊥) changed → leads path ≡ option_map (λ _. Old path) (before path)

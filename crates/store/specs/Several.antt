@@ -9,7 +9,7 @@ use Rattle.store.specs.declared.store.StoreFault.TheVariants.{OutOfMemory}
 abbrev pub Gave : (List ℕ → Result (Vec ℕ Global) StoreFault → Type 0) → (List ℕ → Result (Vec ℕ Global) StoreFault → Type 0) → List ℕ → Result (Vec ℕ Global) StoreFault → Type 0
 Gave here there path file = here path file ⊎ there path file
 
--- of these files, one behind the other, the one at the place is the first that was not read, and this is why; or memory ran out there
+-- of these files, one after the other, the one at the place is the first that was not read, and this is why; or memory ran out there
 abbrev pub StopsAt : List (Result (Vec ℕ Global) StoreFault) → ℕ → StoreFault → Type 0
 StopsAt files place fault = (read : List (Vec ℕ Global)) × (rest : List (Result (Vec ℕ Global) StoreFault)) × (place ≡ length read)
     × ((files ≡ map Ok read ++ Err fault ∷ rest) ⊎ ((bytes : Vec ℕ Global) × (files ≡ map Ok read ++ Ok bytes ∷ rest) × (fault ≡ OutOfMemory)))

@@ -95,7 +95,7 @@ impl PartRead {
     }
 }
 
-/// Directories and files. Its calls have the names of `std::fs`. What a call that changes them did is told by `did`, a relation between two
+/// Directories and files. Its calls have the names of `std::fs`. What a call that changes them did is reported by `did`, a relation between two
 /// states of the store, and what a call that reads them found by `holds`: a store over real files knows nothing of either, and code over any
 /// store claims only calls that it made and what these gave.
 pub trait Store {

@@ -49,7 +49,7 @@ pub fn read_whole<R: Read>(
     Ok(bytes)
 }
 
-/// Writes all of these bytes to a writer, in order, behind what was written to it before, however few it takes at a time. Returns an error
+/// Writes all of these bytes to a writer, in order, after what was written to it before, however few it takes at a time. Returns an error
 /// where the writer fails, or takes nothing: what it took of the bytes stays written.
 pub fn write_whole<W: Write>(writer: &mut W, bytes: &[u8]) -> Result<(), StoreFault>
     ensures { OnOk result (Appends (W.contents writer.old) (W.contents writer.new) bytes.now) }

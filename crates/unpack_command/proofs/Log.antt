@@ -25,7 +25,7 @@ use Rattle.unpack_command.specs.Steps.{with_files}
 use Rattle.unpack_command.proofs.Inside.{log_inside}
 use Rattle.unpack_command.proofs.Made.{calls_then}
 
--- ---- the segments behind a checkpoint
+-- ---- the segments after a checkpoint
 
 module _ (view : View) (dir : List ℕ) (plan : List NumberedName) where
   pub behind_damage : (first : Option FileDamage) → is_some first ≡ true → AreUnpackedBehind view dir first plan [] first

@@ -36,10 +36,10 @@ module _ {S : Type 0} (did : S → List Call → S → Type 0) where
     none_begun s calls = first_of_more did s s [] calls (record { made = []; done = nothing s; are_first = refl })
 
   module _ (both : (old middle new : S) (first second : List Call) → did old first middle → did middle second new → did old (first ++ second) new) (folder : List ℕ) (old middle new : S) (xs ys : List Segment) (so_far : DidAll did old (files_calls (files_in folder xs)) middle) where
-    -- more files were written behind these
+    -- more files were written after these
     pub files_more : DidAll did middle (files_calls (files_in folder ys)) new → DidAll did old (files_calls (files_in folder (xs ++ ys))) new
     files_more more = subst (λ (calls : List Call). DidAll did old calls new) (sym (files_then folder xs ys)) (all_both did both old middle new (files_calls (files_in folder xs)) (files_calls (files_in folder ys)) so_far more)
 
-    -- more files were begun behind these
+    -- more files were begun after these
     pub files_begun : DidFirst did middle (files_calls (files_in folder ys)) new → DidFirst did old (files_calls (files_in folder (xs ++ ys))) new
     files_begun more = subst (λ (calls : List Call). DidFirst did old calls new) (sym (files_then folder xs ys)) (first_behind did both old middle new (files_calls (files_in folder xs)) (files_calls (files_in folder ys)) so_far more)

@@ -58,19 +58,19 @@ pub record IsOut (out path : List ℕ) : Type 0 where
   pub path_is : path ≡ path_join parent name
   pub no_log_name : IsNoLogName name
 
--- At the path stands what stood there, or a folder with this log; and all else as before, but for the unfinished folder.
+-- At the path is what was there, or a folder with this log; and all else as before, but for the unfinished folder.
 abbrev pub LeavesOldOrLog : List ℕ → Option Checkpoint → List Segment → Standing → (List ℕ → Option File) → Standing → Type 0
 LeavesOldOrLog path checkpoint segments =
     let folder = unfinished_of path in
     LeavesOldOrFolder path folder (log_dirs folder checkpoint) (log_files folder checkpoint segments)
 
--- At the path stands a folder with this log.
+-- At the path is a folder with this log.
 abbrev pub LeavesLog : List ℕ → Option Checkpoint → List Segment → Standing → (List ℕ → Option File) → Standing → Type 0
 LeavesLog path checkpoint segments =
     let folder = unfinished_of path in
     LeavesFolder path folder (log_dirs folder checkpoint) (log_files folder checkpoint segments)
 
--- At the path stands what stood there; and all else as before, but for the unfinished folder and what is in it.
+-- At the path is what was there; and all else as before, but for the unfinished folder and what is in it.
 abbrev pub LeavesOldBesideLog : List ℕ → Option Checkpoint → List Segment → Standing → (List ℕ → Option File) → Standing → Type 0
 LeavesOldBesideLog path checkpoint segments =
     let folder = unfinished_of path in

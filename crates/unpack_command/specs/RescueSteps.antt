@@ -47,7 +47,7 @@ IsRescuedFrom view log checkpoint segments lost = (inner : List Segment) × (che
 
 module _ {S : Type 0} (did : S → List Call → S → Type 0) where
   module _ (holds : S → List ℕ → Found → Type 0) (old : S) where
-    -- the files of slots were written into a folder, and what is lost of them was told
+    -- the files of slots were written into a folder, and what is lost of them was reported
     abbrev pub RescuesFiles : SlotFiles → List ℕ → Report → Report → S → Type 0
     RescuesFiles slots folder before after new = (files : List Segment) × (lost : List Lost) × AreRescuedOf (seen_since did holds old) slots files lost × Tells lost before after
         × DidAll did old (files_calls (files_in folder files)) new

@@ -13,7 +13,7 @@ use Rattle.unpack_command.specs.Folders.{GivesUpLog, IsOut, WritesLog}
 use Rattle.unpack_command.specs.Since.{seen_since}
 use Rattle.log_directory.specs.Rescued.{IsRescuedLogIn}
 
--- ---- what is told
+-- ---- what is reported
 
 -- The answer of a log that was written with this lost: its lines come first, and the status is Done if nothing is lost, else Damaged.
 pub record TellsRescued (lost : List Lost) (answer : Answer) : Type 0 where

@@ -1,4 +1,4 @@
--- What is told of a log that was unpacked.
+-- What is reported of a log that was unpacked.
 use Rattle.std.specs.Prelude.{◌≡◌, ℕ, List, ◌∷◌, [], ◌++◌, Option, None, Some, codes, string_bytes}
 use Rattle.std.specs.Fmt.{decimal}
 use Rattle.answers.specs.Damages.{file_number, kind_of_file}

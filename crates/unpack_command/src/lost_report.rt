@@ -5,11 +5,11 @@ ghost use Rattle.unpack_command.specs.Reports.{Tells, BeginsReport};
 ghost use Rattle.log_directory.specs.Rescued.{lost_of};
 ghost use Rattle.unpack_command.specs.Rescues.{TellsRescued};
 
-use crate::report::Totals;
+use crate::report::WrittenTotals;
 use answers::{Answer, Status};
 use log_directory::{Lost, RescuedText, push_lost};
 use std::alloc::{AllocError, Global};
-use wal_survey::References;
+use wal_survey::SeenReferences;
 
 /// What is reported: a line for each part that is lost, and how much is written. And the references of all records that are written, which are
 /// lent where a file is read.
@@ -18,19 +18,19 @@ pub(crate) struct Report {
     pub(crate) lines: String,
     /// How many parts are lost.
     pub(crate) lost: u64,
-    pub(crate) totals: Totals,
-    pub(crate) references: Option<References>,
+    pub(crate) totals: WrittenTotals,
+    pub(crate) references: Option<SeenReferences>,
 }
 
 impl Report {
     /// Makes the report of nothing.
-    pub(crate) fn new(alloc: Global, references: References) -> Report
+    pub(crate) fn new(alloc: Global, references: SeenReferences) -> Report
         ensures { BeginsReport result }
     {
         Report {
             lines: String::new(alloc),
             lost: 0,
-            totals: Totals::none(),
+            totals: WrittenTotals::none(),
             references: Some(references),
         }
     }

@@ -10,16 +10,16 @@ use wal_log::Place;
 
 /// How much was written: the files, the records in them, and their bytes.
 #[derive(Clone, Copy)]
-pub(crate) struct Totals {
+pub(crate) struct WrittenTotals {
     files: u64,
     records: u64,
     bytes: u64,
 }
 
-impl Totals {
+impl WrittenTotals {
     /// Returns the totals of no files.
-    pub(crate) fn none() -> Totals {
-        Totals {
+    pub(crate) fn none() -> WrittenTotals {
+        WrittenTotals {
             files: 0,
             records: 0,
             bytes: 0,
@@ -28,7 +28,7 @@ impl Totals {
 
     /// Adds one file with this many records and bytes. Returns an error if a total would need more than 64 bits.
     pub(crate) fn add(&mut self, records: u64, bytes: u64) -> Result<(), AllocError> {
-        *self = Totals {
+        *self = WrittenTotals {
             files: sum(self.files, 1)?,
             records: sum(self.records, records)?,
             bytes: sum(self.bytes, bytes)?,
@@ -40,7 +40,7 @@ impl Totals {
     pub(crate) fn push(self, text: &mut String, unbound: u64) -> Result<(), AllocError>
         ensures { OnOk result ((more : List ℕ) × (string_bytes text.new ≡ string_bytes text.old ++ more)) }
     {
-        let Totals {
+        let WrittenTotals {
             files,
             records,
             bytes,
@@ -88,10 +88,14 @@ fn push_damage(alloc: Global, text: &mut String, found: FileDamage) -> Result<()
 }
 
 // Returns the numbers of what was written, one a line, and the damage, if there is one.
-fn log_text(alloc: Global, totals: Totals, damage: Option<FileDamage>) -> Result<String, AllocError>
+fn log_text(
+    alloc: Global,
+    totals: WrittenTotals,
+    damage: Option<FileDamage>,
+) -> Result<String, AllocError>
     ensures { IfOk result (λ text. IfSome damage (λ bad. EndsWith bad (string_bytes text))) }
 {
-    let Totals {
+    let WrittenTotals {
         files,
         records,
         bytes,
@@ -131,7 +135,7 @@ pub(crate) fn damage_answer(alloc: Global, found: FileDamage) -> Result<Answer, 
 /// Returns the answer where a log is written: the numbers of what was written, and the damage, if there is one.
 pub(crate) fn log_answer(
     alloc: Global,
-    totals: Totals,
+    totals: WrittenTotals,
     damage: Option<FileDamage>,
 ) -> Result<Answer, AllocError>
     ensures told { IfOk result (TellsUnpacked damage) }

@@ -88,7 +88,7 @@ module _ {K : Type 0} (same : K → K → Bool) (law : IsEquivalence same) (exac
   at_seam P [] back x h = h.0
   at_seam P (k ∷ front) back x h = at_seam P front back x h.1
 
-  -- x is neither before nor behind itself
+  -- x is neither before nor after itself
   apart : (x : K) (front back : List K) → IsDistinct same (front ++ x ∷ back) → AllByRecursion (λ k. same k x ≡ false) front × AllByRecursion (λ k. same k x ≡ false) back
   apart x [] back d = (tt, turned x back (IsDistinct-head same x back d))
   apart x (k ∷ front) back d =

@@ -115,7 +115,7 @@ module _ (es : List Event) (rs : List WalRecord) (s : Survey) (h : HasCounted es
         readable = subst (λ (xs : List Passed). IsReadableOf (rs ++ k ∷ []) xs readable) (sym (taken_passed es r)) read;
       }
 
-  -- a record behind it
+  -- a record after it
   pub taken_behind : (r : UnpackedRecord) (k : WalRecord) (readable : Readable) → length rs ≡ length (records_in es) → is_some s.damage ≡ true → IsReadableOf (rs ++ k ∷ []) (passed_in es) readable
       → HasCounted (es ++ Taken r ∷ []) (rs ++ k ∷ []) (record s { readable = readable })
   taken_behind r k readable long some read =

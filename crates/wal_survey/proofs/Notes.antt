@@ -21,7 +21,7 @@ found_noted r place (e ∷ es) = by (found_noted r place es) (nat_eq r e.0) refl
   by rest true h = rw h refl
   by rest false h = rw h rest
 
--- a new key goes behind the others
+-- a new key goes after the others
 pub note_new : (r : ℕ) (place : Place) (es : List (ℕ × Place)) → is_some (lookup (nat_eq r) es) ≡ false → notes_of (insert_entry nat_eq es r place) ≡ notes_of es ++ record { reference = r; place = place } ∷ []
 note_new r place [] h = refl
 note_new r place (e ∷ es) h = by (note_new r place es) (nat_eq r e.0) refl h where

@@ -14,7 +14,7 @@ use Rattle.wal_unpack.specs.Salvage.{Event, PassedOver, Taken, records_in}
 use Rattle.wal_survey.specs.declared.records.Survey.{Survey}
 use Rattle.wal_survey.specs.declared.surveying.Surveyor.{Surveyor}
 use Rattle.wal_survey.specs.Surveys.{IsPlacedRecord, IsSurveyOf, front}
-use Rattle.wal_survey.specs.Taking.{Begun, HasCounted, HasTaken}
+use Rattle.wal_survey.specs.Taking.{SurveyStart, HasCounted, HasTaken}
 use Rattle.wal_survey.proofs.Events.{passed_records, taken_records}
 
 -- two lists with one more item each
@@ -25,7 +25,7 @@ AllZip_more R (a ∷ xs) [] x y each last = absurd each
 AllZip_more R (a ∷ xs) (b ∷ ys) x y each last = (each.0, AllZip_more R xs ys x y each.1 last)
 
 -- no events
-pub none_taken : (start : Begun) (survey : Survey) → HasCounted [] [] survey → HasTaken start [] (record { in_checkpoint = start.in_checkpoint; number = start.number; survey = survey; references = start.references })
+pub none_taken : (start : SurveyStart) (survey : Survey) → HasCounted [] [] survey → HasTaken start [] (record { in_checkpoint = start.in_checkpoint; number = start.number; survey = survey; references = start.references })
 none_taken start survey none = record {
   in_checkpoint = refl;
   number = refl;
@@ -35,7 +35,7 @@ none_taken start survey none = record {
   taken = λ m before h. subst (λ (ps : List Placed). AreReferencesOf m ps start.references) (sym (append-nil before)) h;
 }
 
-module _ (start : Begun) (es : List Event) (s : Surveyor) (h : HasTaken start es s) where
+module _ (start : SurveyStart) (es : List Event) (s : Surveyor) (h : HasTaken start es s) where
   -- as many records as are spelled
   pub long : length (contents h.placed) ≡ length (records_in es)
   long = length-map h.placed (λ (p : Placed). p.content) ∙ AllZip-long (IsPlacedRecord start.in_checkpoint start.number) (records_in es) h.placed h.spelled

@@ -18,13 +18,13 @@ pub record HasCounted (events : List Event) (records : List WalRecord) (s : Surv
   pub readable : IsReadableOf records (passed_in events) s.readable
 
 -- What a surveyor begins with: the file, and the references of any records before it.
-pub record Begun : Type 0 where
+pub record SurveyStart : Type 0 where
   pub in_checkpoint : Bool
   pub number : ℕ
   pub references : ReferencesValue
 
 -- A surveyor that began so has taken these events of its file.
-pub record HasTaken (start : Begun) (events : List Event) (s : Surveyor) : Type 0 where
+pub record HasTaken (start : SurveyStart) (events : List Event) (s : Surveyor) : Type 0 where
   pub in_checkpoint : s.in_checkpoint ≡ start.in_checkpoint
   pub number : s.number ≡ start.number
   pub placed : List Placed

@@ -5,7 +5,7 @@
 //! next, so that besides the file it needs memory for one record, and for the bytes of those that cross pages.
 //!
 //! A series entry binds its reference, and a sample names the reference of its series. If no series entry of the log has it, before the sample or
-//! after it, the sample is lost in a replay. A sample before the least valid time is lost anyway, and does not count. [`References`] reads the
+//! after it, the sample is lost in a replay. A sample before the least valid time is lost anyway, and does not count. [`SeenReferences`] reads the
 //! records of file after file, and keeps only the references that are bound, and those that were named before they were.
 #![tactic(auto)]
 
@@ -17,5 +17,5 @@ mod surveying;
 
 pub use counts::{KindCount, SkippedCount, with_time};
 pub use records::{Readable, Survey};
-pub use references::{References, Unbound, UnboundReference};
+pub use references::{SeenReferences, Unbound, UnboundReference};
 pub use surveying::survey;

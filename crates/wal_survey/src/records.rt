@@ -128,8 +128,9 @@ impl Survey {
             WalRecord::Other(kind) => count_skipped(&mut self.skipped, *kind),
         }
     }
-    /// Takes the next record that can be read: counts it, and before the first damage also by its kind. Returns an error if out of memory.
-    pub(crate) fn take(&mut self, record: &WalRecord) -> Result<(), AllocError>
+
+    /// Counts the next record that can be read; before the first damage also by its kind. Returns an error if out of memory.
+    pub(crate) fn accept(&mut self, record: &WalRecord) -> Result<(), AllocError>
         ensures { (events : List Event) (records : List LogRecord) (r : UnpackedRecord) → length records ≡ length (records_in events) → HasCounted events records self.old
             → OnOk result (HasCounted (events ++ Taken r ∷ []) (records ++ record.now ∷ []) self.new) }
     {

@@ -34,7 +34,7 @@ pub struct Unbound {
 
 /// The references that records bind, and those that their samples named before they were bound.
 #[derive(Debug)]
-pub struct References {
+pub struct SeenReferences {
     bound: ReferenceSet,
     // the references that were named before they were bound, in the order of first sight, with the place of the record of that sight
     noted: IndexMap<u64, Place, HashSeed>,
@@ -43,9 +43,9 @@ pub struct References {
 }
 
 // Written out, so that a function that drops one has a call in its proof, and not a copy of this body.
-impl Drop for References {
+impl Drop for SeenReferences {
     fn drop(self) {
-        let References {
+        let SeenReferences {
             bound: _bound,
             noted: _noted,
             min_valid: _min_valid,
@@ -53,7 +53,7 @@ impl Drop for References {
     }
 }
 
-impl Model for References {
+impl Model for SeenReferences {
     ghost use Rattle.wal_survey.specs.Keeping.{notes_of};
     ghost use Rattle.wal_survey.specs.Unbound.{ReferencesValue};
 
@@ -157,13 +157,13 @@ fn first_missing(
     }
 }
 
-impl References {
+impl SeenReferences {
     /// Makes the references of no records, with hashes by a seed, and with the least valid time, in milliseconds: of the samples before it
     /// no reference counts.
-    pub fn new(alloc: Global, seed: HashSeed, min_valid: i64) -> References
+    pub fn new(alloc: Global, seed: HashSeed, min_valid: i64) -> SeenReferences
         ensures { AreReferencesOf min_valid [] result }
     {
-        References {
+        SeenReferences {
             bound: ReferenceSet::new(alloc, seed),
             noted: IndexMap::with_hasher(alloc, seed),
             min_valid,

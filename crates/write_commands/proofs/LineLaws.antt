@@ -41,7 +41,7 @@ lines_begin {F} it made from parts text same first second rest done = (
   ap (λ (z : Lines F). next_number z) same ∙ ap (λ (r : RangeFrom ℕ). r.start) first,
 )
 
--- nothing is left behind the last line
+-- nothing is left after the last line
 pub none_left : {F : Type 0} (it : Lines F) → split_done (zip_second it) ≡ true → lines_left it ≡ []
 none_left it done = ap (λ (b : Bool). cond b [] (split_rest (zip_second it) ++ 10 ∷ [])) done
 
@@ -57,7 +57,7 @@ cut_joined rest line after false cut first =
     ∙ append_assoc line (10 ∷ after) (10 ∷ [])
     ∙ sym (append_assoc line (10 ∷ []) (after ++ 10 ∷ []))
 
--- the next line, and what is left behind its newline
+-- the next line, and what is left after its newline
 pub line_joined : {F : Type 0} (g : Mut F (Bor ℕ × Unit {0}) Bool) (s t : Split ℕ F) (line : Bor (List ℕ)) → split_steps g s (Some line) t
     → ((x : ℕ) (b : Bool) (f : F) → CalledAt g (split_callee s) x b f → (f ≡ split_callee s) × (b ≡ (x == 10)))
     → left_in s ≡ (line.now ++ 10 ∷ []) ++ left_in t

@@ -32,7 +32,7 @@ cut_joined text word rest more (Some p) at cut =
     ∙ ap (λ (t : List ℕ). word ++ 32 ∷ t) (sym parts.2)
     ∙ ap (λ (b : Bool). word ++ cond b (32 ∷ rest) []) (sym parts.1)
 
--- the next word, and what is left behind it
+-- the next word, and what is left after it
 pub word_joined : (s t : Split ℕ) (word : Bor (List ℕ)) → split_pattern s ≡ 32 → split_steps FindsChar (λ a b. b ≡ a) s (Some word) t
     → (split_text s ≡ word.now ++ left_of t) × (left_of s ≡ 32 ∷ (word.now ++ left_of t)) × (split_pattern t ≡ 32)
 word_joined s t word space step =
@@ -43,7 +43,7 @@ word_joined s t word space step =
       step.1.0 ∙ space,
     )
 
--- nothing is left behind the last word
+-- nothing is left after the last word
 pub none_left : (s t : Split ℕ) → split_steps FindsChar (λ a b. b ≡ a) s None t → left_of s ≡ []
 none_left s t step = ap (λ (b : Bool). cond b (32 ∷ split_text s) []) (sym step.0)
 
@@ -71,7 +71,7 @@ numbers_first line first second behind left time value whole rest t v = record {
   value_spelled = v;
 }
 
--- the words behind the first two are left once those are numbers
+-- the words after the first two are left once those are numbers
 pub numbers_read : {floats : Bool} (line : List ℕ) (s t u : Split ℕ) (first : Option (Bor (List ℕ))) (second : Bor (List ℕ)) (time value : ℤ) → split_text s ≡ line → split_pattern s ≡ 32
     → split_steps FindsChar (λ a b. b ≡ a) s first t → MatchOption first (Some time ≡ None) (λ word. IsNumberText word.now time)
     → split_steps FindsChar (λ a b. b ≡ a) t (Some second) u → IsValueText floats second.now value

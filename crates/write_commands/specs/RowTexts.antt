@@ -23,7 +23,7 @@ IsValueText false word value = IsNumberText word value
 abbrev pub label_word : Label → List ℕ
 label_word l = 32 ∷ pair_text l.name l.value
 
--- A row: its time, its value, a floating point number or not, and its labels, each behind one space.
+-- A row: its time, its value, a floating point number or not, and its labels, each after one space.
 pub record IsRowLine (floats : Bool) (line : List ℕ) (row : Row) : Type 0 where
   pub time_text : List ℕ
   pub value_text : List ℕ

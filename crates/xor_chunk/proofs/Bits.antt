@@ -32,7 +32,7 @@ bits_of-low (suc k) j n h =
     let same : n % 2 ^ j / 2 ^ k % 2 ≡ n / 2 ^ k % 2 = sym (bit_at_cat_low (n / 2 ^ j) j (n % 2 ^ j) k below) ∙ ap (λ (m : ℕ). m / 2 ^ k % 2) parts in
     ap (λ (d : ℕ). eqb d 1 ∷ bits_of k (n % 2 ^ j)) same ∙ ap (λ (bs : List Bool). eqb (n / 2 ^ k % 2) 1 ∷ bs) (bits_of-low k j n (omega arith))
 
--- a number behind another
+-- a number after another
 pub bits_of-join : (a b x y : ℕ) → y < 2 ^ b → bits_of (a + b) (x * 2 ^ b + y) ≡ bits_of a x ++ bits_of b y
 bits_of-join a b x y h =
     let low : bits_of b (x * 2 ^ b + y) ≡ bits_of b y = sym (bits_of-low b b (x * 2 ^ b + y) (omega arith)) ∙ ap (bits_of b) (mod_low x b y h) in
@@ -67,7 +67,7 @@ push_byte items left held h =
     let all : 8 + (left - 8) ≡ left = omega arith in
     ap (λ (bs : List Bool). bs ++ bits_of (left - 8) held) byte ∙ append_assoc (bits_in items) (bits_of 8 b) (bits_of (left - 8) held) ∙ ap (λ (bs : List Bool). bits_in items ++ bs) (sym (bits_of-cat 8 (left - 8) held) ∙ ap (λ (k : ℕ). bits_of k held) all)
 
--- a byte moves behind the bits that are held
+-- a byte moves after the bits that are held
 pub take_byte : (have held joined b : ℕ) (bytes more : List ℕ) → bits_of (have + 8) joined ≡ bits_of have held ++ bits_of 8 b → bytes ≡ b ∷ more
     → bits_of (have + 8) joined ++ bits_in more ≡ bits_of have held ++ bits_in bytes
 take_byte have held joined b bytes more h front =

@@ -15,7 +15,7 @@ use Rattle.xor_chunk.specs.Bits.{bits_in}
 use Rattle.xor_chunk.specs.Chunks.{pattern}
 use Rattle.xor_chunk.specs.Reading.{or_bad, ◌>>=◌, value_at, sample_of, samples_at, second_of, tail_at, second_at, value_behind, first_at, unpacked}
 use Rattle.head_column.specs.declared.items.Sample.{Sample}
-use Rattle.xor_chunk.specs.declared.before.Window.{Window}
+use Rattle.xor_chunk.specs.declared.before.BitWindow.{BitWindow}
 use Rattle.xor_chunk.specs.declared.fault.XorFault.{XorFault}
 use Rattle.xor_chunk.specs.declared.fault.XorFault.TheVariants.{TooShort, BadNumber, Memory}
 
@@ -43,16 +43,16 @@ varint_is bytes z len h = at_is IsVarint varint_at varint_at-again bytes z len h
 pub varint_none : (bytes : List ℕ) → IsNowhere IsVarint bytes → None ≡ varint_at bytes
 varint_none bytes h = nowhere_by IsVarint varint_at varint_at-found bytes (varint_at bytes) h refl
 
--- ---- the second time and the bits behind it
+-- ---- the second time and the bits after it
 
 pub tail_bad : (count : ℕ) (first : Sample) (delta : ℕ) (bits : List Bool) (fault : XorFault) → Err fault ≡ value_at None (pattern first.value) bits → tail_at count first delta bits ≡ Err fault
 unfolding tail_at
-tail_bad count first delta bits fault e = sym (ap (λ (r : Result (ℕ × Option Window × List Bool) XorFault). r >>= λ value. samples_at (count - 2) (first ∷ sample_of (second_of (pattern first.time) delta value.0 value.1) ∷ []) (second_of (pattern first.time) delta value.0 value.1) value.2) e)
+tail_bad count first delta bits fault e = sym (ap (λ (r : Result (ℕ × Option BitWindow × List Bool) XorFault). r >>= λ value. samples_at (count - 2) (first ∷ sample_of (second_of (pattern first.time) delta value.0 value.1) ∷ []) (second_of (pattern first.time) delta value.0 value.1) value.2) e)
 
-pub tail_found : (count : ℕ) (first : Sample) (delta v : ℕ) (o : Option Window) (bits new : List Bool) → Ok (v, o, new) ≡ value_at None (pattern first.value) bits
+pub tail_found : (count : ℕ) (first : Sample) (delta v : ℕ) (o : Option BitWindow) (bits new : List Bool) → Ok (v, o, new) ≡ value_at None (pattern first.value) bits
     → samples_at (count - 2) (first ∷ sample_of (second_of (pattern first.time) delta v o) ∷ []) (second_of (pattern first.time) delta v o) new ≡ tail_at count first delta bits
 unfolding tail_at
-tail_found count first delta v o bits new e = ap (λ (r : Result (ℕ × Option Window × List Bool) XorFault). r >>= λ value. samples_at (count - 2) (first ∷ sample_of (second_of (pattern first.time) delta value.0 value.1) ∷ []) (second_of (pattern first.time) delta value.0 value.1) value.2) e
+tail_found count first delta v o bits new e = ap (λ (r : Result (ℕ × Option BitWindow × List Bool) XorFault). r >>= λ value. samples_at (count - 2) (first ∷ sample_of (second_of (pattern first.time) delta value.0 value.1) ∷ []) (second_of (pattern first.time) delta value.0 value.1) value.2) e
 
 pub second_one : (count : ℕ) (first : Sample) (bytes : List ℕ) → count ≡ 1 → second_at count first bytes ≡ Ok (first ∷ [])
 unfolding second_at
@@ -125,7 +125,7 @@ pub fault_by : {A : Type 0} (r : Result A XorFault) (x y : Result (List Sample) 
 fault_by (Err e) x y h p = λ other. sym h ∙ p other
 fault_by (Ok a) x y h p = p
 
-pub tail_more : (count : ℕ) (first : Sample) (delta v t : ℕ) (o : Option Window) (bits new : List Bool) (items : List Sample) (s : Sample) → t ≡ pattern first.time → s ≡ sample_of (second_of t delta v o) → items ≡ first ∷ s ∷ []
+pub tail_more : (count : ℕ) (first : Sample) (delta v t : ℕ) (o : Option BitWindow) (bits new : List Bool) (items : List Sample) (s : Sample) → t ≡ pattern first.time → s ≡ sample_of (second_of t delta v o) → items ≡ first ∷ s ∷ []
     → Ok (v, o, new) ≡ value_at None (pattern first.value) bits → samples_at (count - 2) items (second_of t delta v o) new ≡ tail_at count first delta bits
 tail_more count first delta v t o bits new items s h e f g =
     ap (λ (xs : List Sample). samples_at (count - 2) xs (second_of t delta v o) new) (f ∙ ap (λ (x : Sample). first ∷ x ∷ []) e)

@@ -9,7 +9,7 @@ use Rattle.xor_chunk.specs.Bits.{bits_of}
 use Rattle.xor_chunk.specs.Chunks.{width}
 use Rattle.xor_chunk.specs.Reading.{number_at, widened, near_at, step_at, within_at, or_short, found_map, ◌>>=◌, window_of, window_at, changed_at, value_at, next, sample_at, sample_of, samples_at}
 use Rattle.head_column.specs.declared.items.Sample.{Sample}
-use Rattle.xor_chunk.specs.declared.before.Window.{Window}
+use Rattle.xor_chunk.specs.declared.before.BitWindow.{BitWindow}
 use Rattle.xor_chunk.specs.declared.before.Before.{Before}
 use Rattle.xor_chunk.specs.declared.fault.XorFault.{XorFault}
 use Rattle.xor_chunk.specs.declared.fault.XorFault.TheVariants.{TooShort}
@@ -74,64 +74,64 @@ then_bit bits rest b v e h = e ∙ ap (λ (x : Bool). x ∷ rest) h
 
 -- ---- values
 
-pub within_none : (o : Option Window) (r : Option ℕ) (old new : List Bool) → o ≡ None → IfSome r (λ n. n < 2 ^ 64) → IfSome r (λ n. old ≡ bits_of 64 n ++ new) → IfNone r (length old < 64) → option_map (λ n. (n, new)) r ≡ within_at o old
+pub within_none : (o : Option BitWindow) (r : Option ℕ) (old new : List Bool) → o ≡ None → IfSome r (λ n. n < 2 ^ 64) → IfSome r (λ n. old ≡ bits_of 64 n ++ new) → IfNone r (length old < 64) → option_map (λ n. (n, new)) r ≡ within_at o old
 unfolding within_at
-within_none o r old new none h e s = number_exact 64 r old new h e s ∙ ap (λ (w : Option Window). within_at w old) (sym none)
+within_none o r old new none h e s = number_exact 64 r old new h e s ∙ ap (λ (w : Option BitWindow). within_at w old) (sym none)
 
-pub within_short : (o : Option Window) (w : Window) (k : ℕ) (old : List Bool) → o ≡ Some w → k ≡ width w → length old < k → None ≡ within_at o old
+pub within_short : (o : Option BitWindow) (w : BitWindow) (k : ℕ) (old : List Bool) → o ≡ Some w → k ≡ width w → length old < k → None ≡ within_at o old
 unfolding within_at
-within_short o w k old is size h = ap (option_map (λ (x : ℕ × List Bool). (x.0 * 2 ^ w.trailing, x.1))) (number_short (width w) old (subst (λ (m : ℕ). length old < m) size h)) ∙ ap (λ (v : Option Window). within_at v old) (sym is)
+within_short o w k old is size h = ap (option_map (λ (x : ℕ × List Bool). (x.0 * 2 ^ w.trailing, x.1))) (number_short (width w) old (subst (λ (m : ℕ). length old < m) size h)) ∙ ap (λ (v : Option BitWindow). within_at v old) (sym is)
 
-pub within_found : (o : Option Window) (w : Window) (k n : ℕ) (old new : List Bool) → o ≡ Some w → k ≡ width w → w.leading + w.trailing < 64 → n < 2 ^ k → old ≡ bits_of k n ++ new → Some (n * 2 ^ w.trailing % 2 ^ 64, new) ≡ within_at o old
+pub within_found : (o : Option BitWindow) (w : BitWindow) (k n : ℕ) (old new : List Bool) → o ≡ Some w → k ≡ width w → w.leading + w.trailing < 64 → n < 2 ^ k → old ≡ bits_of k n ++ new → Some (n * 2 ^ w.trailing % 2 ^ 64, new) ≡ within_at o old
 unfolding within_at
 within_found o w k n old new is size some h e =
     let fits : n < 2 ^ width w = subst (λ (m : ℕ). n < 2 ^ m) size h in
     let there : old ≡ bits_of (width w) n ++ new = subst (λ (m : ℕ). old ≡ bits_of m n ++ new) size e in
     let whole : n * 2 ^ w.trailing % 2 ^ 64 ≡ n * 2 ^ w.trailing = shl_whole n (width w) w.trailing 64 fits (omega arith) in
-    ap (λ (m : ℕ). Some (m, new)) whole ∙ ap (option_map (λ (x : ℕ × List Bool). (x.0 * 2 ^ w.trailing, x.1))) (number_found (width w) n old new fits there) ∙ ap (λ (v : Option Window). within_at v old) (sym is)
+    ap (λ (m : ℕ). Some (m, new)) whole ∙ ap (option_map (λ (x : ℕ × List Bool). (x.0 * 2 ^ w.trailing, x.1))) (number_found (width w) n old new fits there) ∙ ap (λ (v : Option BitWindow). within_at v old) (sym is)
 
 pub window_short : (old : List Bool) → length old < 11 → Err TooShort ≡ window_at old
 unfolding window_at
 window_short old h = ap (λ (r : Option (ℕ × List Bool)). or_short r >>= λ head. (window_of head.0 >>= λ w. Ok (w, head.1))) (number_short 11 old h)
 
-pub window_found : (r : Result Window XorFault) (head : ℕ) (old new : List Bool) → r ≡ window_of head → head < 2 ^ 11 → old ≡ bits_of 11 head ++ new → (r >>= λ w. Ok (w, new)) ≡ window_at old
+pub window_found : (r : Result BitWindow XorFault) (head : ℕ) (old new : List Bool) → r ≡ window_of head → head < 2 ^ 11 → old ≡ bits_of 11 head ++ new → (r >>= λ w. Ok (w, new)) ≡ window_at old
 unfolding window_at
 window_found r head old new is h e =
-    ap (λ (x : Result Window XorFault). x >>= λ w. Ok (w, new)) is ∙ ap (λ (x : Option (ℕ × List Bool)). or_short x >>= λ y. (window_of y.0 >>= λ w. Ok (w, y.1))) (number_found 11 head old new h e)
+    ap (λ (x : Result BitWindow XorFault). x >>= λ w. Ok (w, new)) is ∙ ap (λ (x : Option (ℕ × List Bool)). or_short x >>= λ y. (window_of y.0 >>= λ w. Ok (w, y.1))) (number_found 11 head old new h e)
 
-pub changed_short : (v : ℕ) (o : Option Window) (old : List Bool) → None ≡ within_at o old → Err TooShort ≡ changed_at v o old
+pub changed_short : (v : ℕ) (o : Option BitWindow) (old : List Bool) → None ≡ within_at o old → Err TooShort ≡ changed_at v o old
 unfolding changed_at
 changed_short v o old e = ap (λ (r : Option (ℕ × List Bool)). or_short r >>= λ xor. Ok (bit_xor v xor.0, o, xor.1)) e
 
-pub changed_found : (v x : ℕ) (o : Option Window) (old new : List Bool) → Some (x, new) ≡ within_at o old → Ok (bit_xor v x, o, new) ≡ changed_at v o old
+pub changed_found : (v x : ℕ) (o : Option BitWindow) (old new : List Bool) → Some (x, new) ≡ within_at o old → Ok (bit_xor v x, o, new) ≡ changed_at v o old
 unfolding changed_at
 changed_found v x o old new e = ap (λ (r : Option (ℕ × List Bool)). or_short r >>= λ xor. Ok (bit_xor v xor.0, o, xor.1)) e
 
-pub value_none : (v : ℕ) (o : Option Window) (old : List Bool) → old ≡ [] → Err TooShort ≡ value_at o v old
+pub value_none : (v : ℕ) (o : Option BitWindow) (old : List Bool) → old ≡ [] → Err TooShort ≡ value_at o v old
 unfolding value_at
 value_none v o old e = sym (ap (value_at o v) e)
 
-pub value_same : (v : ℕ) (o : Option Window) (old new : List Bool) → old ≡ false ∷ new → Ok (v, o, new) ≡ value_at o v old
+pub value_same : (v : ℕ) (o : Option BitWindow) (old new : List Bool) → old ≡ false ∷ new → Ok (v, o, new) ≡ value_at o v old
 unfolding value_at
 value_same v o old new e = sym (ap (value_at o v) e)
 
-pub value_cut : (v : ℕ) (o : Option Window) (old one : List Bool) → old ≡ true ∷ one → one ≡ [] → Err TooShort ≡ value_at o v old
+pub value_cut : (v : ℕ) (o : Option BitWindow) (old one : List Bool) → old ≡ true ∷ one → one ≡ [] → Err TooShort ≡ value_at o v old
 unfolding value_at
 value_cut v o old one e f = sym (ap (value_at o v) (e ∙ ap (λ (bs : List Bool). true ∷ bs) f))
 
-pub value_again : (v : ℕ) (o : Option Window) (old one two : List Bool) → old ≡ true ∷ one → one ≡ false ∷ two → changed_at v o two ≡ value_at o v old
+pub value_again : (v : ℕ) (o : Option BitWindow) (old one two : List Bool) → old ≡ true ∷ one → one ≡ false ∷ two → changed_at v o two ≡ value_at o v old
 unfolding value_at
 value_again v o old one two e f = sym (ap (value_at o v) (e ∙ ap (λ (bs : List Bool). true ∷ bs) f))
 
-value_opens : (v : ℕ) (o : Option Window) (old one two : List Bool) → old ≡ true ∷ one → one ≡ true ∷ two → (window_at two >>= λ x. changed_at v (Some x.0) x.1) ≡ value_at o v old
+value_opens : (v : ℕ) (o : Option BitWindow) (old one two : List Bool) → old ≡ true ∷ one → one ≡ true ∷ two → (window_at two >>= λ x. changed_at v (Some x.0) x.1) ≡ value_at o v old
 unfolding value_at
 value_opens v o old one two e f = sym (ap (value_at o v) (e ∙ ap (λ (bs : List Bool). true ∷ bs) f))
 
-pub value_bad : (v : ℕ) (o : Option Window) (old one two : List Bool) (fault : XorFault) → old ≡ true ∷ one → one ≡ true ∷ two → Err fault ≡ window_at two → Err fault ≡ value_at o v old
-value_bad v o old one two fault e f h = ap (λ (r : Result (Window × List Bool) XorFault). r >>= λ x. changed_at v (Some x.0) x.1) h ∙ value_opens v o old one two e f
+pub value_bad : (v : ℕ) (o : Option BitWindow) (old one two : List Bool) (fault : XorFault) → old ≡ true ∷ one → one ≡ true ∷ two → Err fault ≡ window_at two → Err fault ≡ value_at o v old
+value_bad v o old one two fault e f h = ap (λ (r : Result (BitWindow × List Bool) XorFault). r >>= λ x. changed_at v (Some x.0) x.1) h ∙ value_opens v o old one two e f
 
-pub value_new : (v : ℕ) (o : Option Window) (old one two three : List Bool) (w : Window) → old ≡ true ∷ one → one ≡ true ∷ two → Ok (w, three) ≡ window_at two → changed_at v (Some w) three ≡ value_at o v old
-value_new v o old one two three w e f h = ap (λ (r : Result (Window × List Bool) XorFault). r >>= λ x. changed_at v (Some x.0) x.1) h ∙ value_opens v o old one two e f
+pub value_new : (v : ℕ) (o : Option BitWindow) (old one two three : List Bool) (w : BitWindow) → old ≡ true ∷ one → one ≡ true ∷ two → Ok (w, three) ≡ window_at two → changed_at v (Some w) three ≡ value_at o v old
+value_new v o old one two three w e f h = ap (λ (r : Result (BitWindow × List Bool) XorFault). r >>= λ x. changed_at v (Some x.0) x.1) h ∙ value_opens v o old one two e f
 
 -- ---- samples
 
@@ -142,13 +142,13 @@ sample_short b old e = ap (λ (r : Option (ℕ × List Bool)). or_short r >>= λ
 pub sample_bad : (b : Before) (old one : List Bool) (step : ℕ) (fault : XorFault) → Some (step, one) ≡ step_at old → Err fault ≡ value_at b.window b.value one → Err fault ≡ sample_at b old
 unfolding sample_at
 sample_bad b old one step fault e f =
-    ap (λ (r : Result (ℕ × Option Window × List Bool) XorFault). r >>= λ value. Ok (next b step value.0 value.1, value.2)) f
+    ap (λ (r : Result (ℕ × Option BitWindow × List Bool) XorFault). r >>= λ value. Ok (next b step value.0 value.1, value.2)) f
     ∙ ap (λ (r : Option (ℕ × List Bool)). or_short r >>= λ x. (value_at b.window b.value x.1 >>= λ value. Ok (next b x.0 value.0 value.1, value.2))) e
 
-pub sample_found : (b : Before) (old one two : List Bool) (step v : ℕ) (o : Option Window) → Some (step, one) ≡ step_at old → Ok (v, o, two) ≡ value_at b.window b.value one → Ok (next b step v o, two) ≡ sample_at b old
+pub sample_found : (b : Before) (old one two : List Bool) (step v : ℕ) (o : Option BitWindow) → Some (step, one) ≡ step_at old → Ok (v, o, two) ≡ value_at b.window b.value one → Ok (next b step v o, two) ≡ sample_at b old
 unfolding sample_at
 sample_found b old one two step v o e f =
-    ap (λ (r : Result (ℕ × Option Window × List Bool) XorFault). r >>= λ value. Ok (next b step value.0 value.1, value.2)) f
+    ap (λ (r : Result (ℕ × Option BitWindow × List Bool) XorFault). r >>= λ value. Ok (next b step value.0 value.1, value.2)) f
     ∙ ap (λ (r : Option (ℕ × List Bool)). or_short r >>= λ x. (value_at b.window b.value x.1 >>= λ value. Ok (next b x.0 value.0 value.1, value.2))) e
 
 pub mapped : {A : Type 0} (r : Result A XorFault) (new : List Bool) → found_map {B = A × List Bool} (λ x. (x, new)) r ≡ (r >>= λ x. Ok (x, new))

@@ -19,7 +19,7 @@ use Rattle.head_column.specs.Chunks.{IsFit}
 use Rattle.xor_chunk.specs.Chunks.{pattern, plus, minus, second, value_bits, window_after, samples_bits, tail_bits, count_bytes, first_bytes, delta_bytes, head_bytes, behind_head, chunk_bits, xor_text, IsXorChunk}
 use Rattle.xor_chunk.specs.Reading.{sample_of, samples_at, tail_at, second_at, first_at, unpacked}
 use Rattle.head_column.specs.declared.items.Sample.{Sample}
-use Rattle.xor_chunk.specs.declared.before.Window.{Window}
+use Rattle.xor_chunk.specs.declared.before.BitWindow.{BitWindow}
 use Rattle.xor_chunk.specs.declared.fault.XorFault.{XorFault}
 use Rattle.xor_chunk.specs.declared.fault.XorFault.TheVariants.{Memory}
 use Rattle.xor_chunk.proofs.Cut.{cut_front}
@@ -90,7 +90,7 @@ tail_round a b more zeros fa fb fit =
     let va : ℕ = pattern a.value in
     let vb : ℕ = pattern b.value in
     let d : ℕ = minus tb ta in
-    let o : Option Window = window_after None (bit_xor va vb) in
+    let o : Option BitWindow = window_after None (bit_xor va vb) in
     let bits : List Bool = value_bits None (bit_xor va vb) in
     let rest : List Bool = samples_bits (second a b) more ++ zeros in
     let count : ℕ = length (a ∷ b ∷ more) in

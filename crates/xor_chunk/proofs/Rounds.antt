@@ -15,7 +15,7 @@ use Rattle.xor_chunk.specs.Chunks.{pattern, plus, minus, is_near, step_bits, ope
 use Rattle.xor_chunk.specs.Private.{Holds}
 use Rattle.xor_chunk.specs.Reading.{widened, near_at, step_at, within_at, or_short, ◌>>=◌, said_width, window_of, window_at, changed_at, value_at, next, sample_at, sample_of, samples_at}
 use Rattle.head_column.specs.declared.items.Sample.{Sample}
-use Rattle.xor_chunk.specs.declared.before.Window.{Window}
+use Rattle.xor_chunk.specs.declared.before.BitWindow.{BitWindow}
 use Rattle.xor_chunk.specs.declared.before.Before.{Before}
 use Rattle.xor_chunk.specs.declared.fault.XorFault.{XorFault}
 use Rattle.xor_chunk.specs.declared.fault.XorFault.TheVariants.{BadWindow}
@@ -84,13 +84,13 @@ step_round d rest fits = step_by d rest (eqb d 0) (is_near 13 d) (is_near 16 d) 
 
 -- ---- values
 
-within_round : (w : Window) (x : ℕ) (rest : List Bool) → Holds w x → within_at (Some w) (within w x ++ rest) ≡ Some (x, rest)
+within_round : (w : BitWindow) (x : ℕ) (rest : List Bool) → Holds w x → within_at (Some w) (within w x ++ rest) ≡ Some (x, rest)
 unfolding within_at within
 within_round w x rest h =
     sym (ap (option_map (λ (y : ℕ × List Bool). (y.0 * 2 ^ w.trailing, y.1))) (number_found (width w) (x / 2 ^ w.trailing) (bits_of (width w) (x / 2 ^ w.trailing) ++ rest) rest h.small refl))
     ∙ ap (λ (n : ℕ). Some (n, rest)) h.whole
 
-changed_round : (v x : ℕ) (w : Window) (rest : List Bool) → Holds w x → changed_at v (Some w) (within w x ++ rest) ≡ Ok (bit_xor v x, Some w, rest)
+changed_round : (v x : ℕ) (w : BitWindow) (rest : List Bool) → Holds w x → changed_at v (Some w) (within w x ++ rest) ≡ Ok (bit_xor v x, Some w, rest)
 unfolding changed_at
 changed_round v x w rest h = ap (λ (r : Option (ℕ × List Bool)). or_short r >>= λ y. Ok (bit_xor v y.0, Some w, y.1)) (within_round w x rest h)
 
@@ -100,7 +100,7 @@ said_back n some most = ⊎_elim
     (λ (h : 64 ≤ n). let low : n % 64 ≡ 0 = omega arith in let is : 64 ≡ n = omega arith in ap (λ (b : Bool). cond b 64 (n % 64)) (eq-eqb (n % 64) 0 low) ∙ is)
     (cases_lt n 64)
 
-window_round : (w : Window) → w.leading + w.trailing < 64 → window_of (w.leading * 2 ^ 6 + width w % 64) ≡ Ok w
+window_round : (w : BitWindow) → w.leading + w.trailing < 64 → window_of (w.leading * 2 ^ 6 + width w % 64) ≡ Ok w
 unfolding window_of
 window_round w h =
     let head : ℕ = w.leading * 2 ^ 6 + width w % 64 in
@@ -111,7 +111,7 @@ window_round w h =
     let behind : 64 - head / 64 - said_width (head % 64) ≡ w.trailing = omega (arith, upper, said) in
     ap (λ (b : Bool). cond b (Err BadWindow) (Ok (record { leading = head / 64; trailing = 64 - head / 64 - said_width (head % 64) }))) test ∙ ap (λ (l : ℕ). Ok (record { leading = l; trailing = 64 - head / 64 - said_width (head % 64) })) upper ∙ ap (λ (t : ℕ). Ok (record { leading = w.leading; trailing = t })) behind
 
-window_at_round : (w : Window) (rest : List Bool) → w.leading < 32 → w.leading + w.trailing < 64 → window_at ((bits_of 5 w.leading ++ bits_of 6 (width w % 64)) ++ rest) ≡ Ok (w, rest)
+window_at_round : (w : BitWindow) (rest : List Bool) → w.leading < 32 → w.leading + w.trailing < 64 → window_at ((bits_of 5 w.leading ++ bits_of 6 (width w % 64)) ++ rest) ≡ Ok (w, rest)
 unfolding window_at
 window_at_round w rest lead some =
     let low : width w % 64 < 2 ^ 6 = omega arith in
@@ -119,25 +119,25 @@ window_at_round w rest lead some =
     let joined : (bits_of 5 w.leading ++ bits_of 6 (width w % 64)) ++ rest ≡ bits_of 11 head ++ rest = ap (λ (bs : List Bool). bs ++ rest) (sym (bits_of-join 5 6 w.leading (width w % 64) low)) in
     let fits : head < 2 ^ 11 = omega arith in
     sym (ap (λ (r : Option (ℕ × List Bool)). or_short r >>= λ y. (window_of y.0 >>= λ v. Ok (v, y.1))) (number_found 11 head ((bits_of 5 w.leading ++ bits_of 6 (width w % 64)) ++ rest) rest fits joined))
-    ∙ ap (λ (r : Result Window XorFault). r >>= λ v. Ok (v, rest)) (window_round w some)
+    ∙ ap (λ (r : Result BitWindow XorFault). r >>= λ v. Ok (v, rest)) (window_round w some)
 
-opening_round : (o : Option Window) (v x : ℕ) (w : Window) (rest : List Bool) → w.leading < 32 → Holds w x → value_at o v ((opening w ++ within w x) ++ rest) ≡ Ok (bit_xor v x, Some w, rest)
+opening_round : (o : Option BitWindow) (v x : ℕ) (w : BitWindow) (rest : List Bool) → w.leading < 32 → Holds w x → value_at o v ((opening w ++ within w x) ++ rest) ≡ Ok (bit_xor v x, Some w, rest)
 unfolding value_at opening
 opening_round o v x w rest lead h =
     let head : List Bool = bits_of 5 w.leading ++ bits_of 6 (width w % 64) in
     ap (λ (bs : List Bool). value_at o v (true ∷ true ∷ bs)) (append_assoc head (within w x) rest)
-    ∙ ap (λ (r : Result (Window × List Bool) XorFault). r >>= λ y. changed_at v (Some y.0) y.1) (window_at_round w (within w x ++ rest) lead h.within) ∙ changed_round v x w rest h
+    ∙ ap (λ (r : Result (BitWindow × List Bool) XorFault). r >>= λ y. changed_at v (Some y.0) y.1) (window_at_round w (within w x ++ rest) lead h.within) ∙ changed_round v x w rest h
 
-again_round : (o : Option Window) (v x : ℕ) (w : Window) (rest : List Bool) → o ≡ Some w → Holds w x → value_at o v ((true ∷ false ∷ within w x) ++ rest) ≡ Ok (bit_xor v x, Some w, rest)
+again_round : (o : Option BitWindow) (v x : ℕ) (w : BitWindow) (rest : List Bool) → o ≡ Some w → Holds w x → value_at o v ((true ∷ false ∷ within w x) ++ rest) ≡ Ok (bit_xor v x, Some w, rest)
 unfolding value_at
-again_round o v x w rest is h = ap (λ (u : Option Window). changed_at v u (within w x ++ rest)) is ∙ changed_round v x w rest h
+again_round o v x w rest is h = ap (λ (u : Option BitWindow). changed_at v u (within w x ++ rest)) is ∙ changed_round v x w rest h
 
-changed_by : (o r : Option Window) (v x : ℕ) (rest : List Bool) → 0 < x → x < 2 ^ 64 → reused o (opened x) ≡ r → value_at o v (changed_bits r x ++ rest) ≡ Ok (bit_xor v x, Some (used r (opened x)), rest)
+changed_by : (o r : Option BitWindow) (v x : ℕ) (rest : List Bool) → 0 < x → x < 2 ^ 64 → reused o (opened x) ≡ r → value_at o v (changed_bits r x ++ rest) ≡ Ok (bit_xor v x, Some (used r (opened x)), rest)
 unfolding changed_bits
 changed_by o None v x rest some fits e = opening_round o v x (opened x) rest (opened_leading x) (opened_holds x some fits)
 changed_by o (Some w) v x rest some fits e = again_round o v x w rest (reused_is o (opened x) w e) (reused_holds o x w some fits e)
 
-value_by : (o : Option Window) (v x : ℕ) (rest : List Bool) (same : Bool) → x < 2 ^ 64 → eqb x 0 ≡ same → value_at o v (value_bits o x ++ rest) ≡ Ok (bit_xor v x, window_after o x, rest)
+value_by : (o : Option BitWindow) (v x : ℕ) (rest : List Bool) (same : Bool) → x < 2 ^ 64 → eqb x 0 ≡ same → value_at o v (value_bits o x ++ rest) ≡ Ok (bit_xor v x, window_after o x, rest)
 unfolding value_bits window_after value_at
 value_by o v x rest true fits e =
     let none : x ≡ 0 = eqb-true x 0 e in
@@ -145,7 +145,7 @@ value_by o v x rest true fits e =
     rw e (ap (λ (n : ℕ). Ok (n, o, rest)) stays)
 value_by o v x rest false fits e = (let ne : x ≡ 0 → ⊥ = eqb-false x 0 e in rw e (changed_by o (reused o (opened x)) v x rest (omega arith) fits refl))
 
-pub value_round : (o : Option Window) (v w : ℕ) (rest : List Bool) → v < 2 ^ 64 → w < 2 ^ 64 → value_at o v (value_bits o (bit_xor v w) ++ rest) ≡ Ok (w, window_after o (bit_xor v w), rest)
+pub value_round : (o : Option BitWindow) (v w : ℕ) (rest : List Bool) → v < 2 ^ 64 → w < 2 ^ 64 → value_at o v (value_bits o (bit_xor v w) ++ rest) ≡ Ok (w, window_after o (bit_xor v w), rest)
 value_round o v w rest h k =
     let x : ℕ = bit_xor v w in
     value_by o v x rest (eqb x 0) (xor_lt 64 v w h k) refl ∙ ap (λ (n : ℕ). Ok (n, window_after o x, rest)) (xor_back v w)
@@ -187,7 +187,7 @@ sample_round b s rest h fit =
     let e : plus b.time delta ≡ t = plus_minus b.time t h.time ts in
     ap (λ (bs : List Bool). sample_at b bs) (append_assoc (step_bits step) values rest)
     ∙ ap (λ (r : Option (ℕ × List Bool)). or_short r >>= λ x. (value_at b.window b.value x.1 >>= λ value. Ok (next b x.0 value.0 value.1, value.2))) (step_round step (values ++ rest) (minus_small b.delta delta))
-    ∙ ap (λ (r : Result (ℕ × Option Window × List Bool) XorFault). r >>= λ value. Ok (next b step value.0 value.1, value.2)) (value_round b.window b.value w rest h.value ws)
+    ∙ ap (λ (r : Result (ℕ × Option BitWindow × List Bool) XorFault). r >>= λ value. Ok (next b step value.0 value.1, value.2)) (value_round b.window b.value w rest h.value ws)
     ∙ ap (λ (n : ℕ). Ok (record { time = plus b.time n; value = w; delta = n; window = window_after b.window (bit_xor b.value w) }, rest)) d
     ∙ ap (λ (n : ℕ). Ok (record { time = n; value = w; delta = delta; window = window_after b.window (bit_xor b.value w) }, rest)) e
 

@@ -8,7 +8,7 @@ use Rattle.head_column.specs.declared.items.Sample.{Sample}
 use Rattle.xor_chunk.specs.Bits.{bits_of, bits_in}
 use Rattle.xor_chunk.specs.Private.{IsPad}
 use Rattle.xor_chunk.specs.Chunks.{pattern, minus, is_near, step_bits, opened, width, within, opening, reused, changed_bits, value_bits, sample_bits, after, samples_bits, second, count_bytes, first_bytes, delta_bytes, head_bytes, behind_head, chunk_bits, is_whole_chunk, xor_text}
-use Rattle.xor_chunk.specs.declared.before.Window.{Window}
+use Rattle.xor_chunk.specs.declared.before.BitWindow.{BitWindow}
 use Rattle.xor_chunk.specs.declared.before.Before.{Before}
 use Rattle.xor_chunk.proofs.Bits.{bits_of-length}
 use Rattle.xor_chunk.proofs.Cut.{bits_in-length}
@@ -55,20 +55,20 @@ step_most d =
     (either (is_near 16 d) (true ∷ true ∷ false ∷ bits_of 17 (d % 2 ^ 17)) _ 68 (omega (arith, bits_of-length 17 (d % 2 ^ 17)))
     (either (is_near 19 d) (true ∷ true ∷ true ∷ false ∷ bits_of 20 (d % 2 ^ 20)) (true ∷ true ∷ true ∷ true ∷ bits_of 64 d) 68 (omega (arith, bits_of-length 20 (d % 2 ^ 20))) (omega (arith, bits_of-length 64 d)))))
 
-within_most : (w : Window) (x : ℕ) → length (within w x) ≤ 64
+within_most : (w : BitWindow) (x : ℕ) → length (within w x) ≤ 64
 unfolding within
 within_most w x = omega (arith, bits_of-length (width w) (x / 2 ^ w.trailing))
 
-opening_most : (w : Window) → length (opening w) ≤ 13
+opening_most : (w : BitWindow) → length (opening w) ≤ 13
 unfolding opening
 opening_most w = omega (arith, length-append (bits_of 5 w.leading) (bits_of 6 (width w % 64)), bits_of-length 5 w.leading, bits_of-length 6 (width w % 64))
 
-changed_most : (o : Option Window) (x : ℕ) → length (changed_bits o x) ≤ 77
+changed_most : (o : Option BitWindow) (x : ℕ) → length (changed_bits o x) ≤ 77
 unfolding changed_bits
 changed_most None x = omega (arith, length-append (opening (opened x)) (within (opened x) x), opening_most (opened x), within_most (opened x) x)
 changed_most (Some w) x = omega (arith, within_most w x)
 
-value_most : (o : Option Window) (x : ℕ) → length (value_bits o x) ≤ 77
+value_most : (o : Option BitWindow) (x : ℕ) → length (value_bits o x) ≤ 77
 unfolding value_bits
 value_most o x = either (eqb x 0) (false ∷ []) (changed_bits (reused o (opened x)) x) 77 (omega arith) (changed_most (reused o (opened x)) x)
 

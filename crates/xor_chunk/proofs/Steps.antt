@@ -6,7 +6,7 @@ use Rattle.std.proofs.lemmas.Bool.{eq-eqb, ne_eqb, le-leb, lt-leb, lt-ltb, le-lt
 use Rattle.std.proofs.lemmas.Nat.{mod_below, one_shl, pow_below, pow_pos}
 use Rattle.xor_chunk.specs.Bits.{bits_of}
 use Rattle.xor_chunk.specs.Chunks.{is_near, step_bits, opening, within, value_bits, changed_bits, window_after, is_whole, reused, opened, width, sample_bits, samples_bits, after, ends_whole, pattern}
-use Rattle.xor_chunk.specs.declared.before.Window.{Window}
+use Rattle.xor_chunk.specs.declared.before.BitWindow.{BitWindow}
 use Rattle.head_column.specs.declared.items.Sample.{Sample}
 use Rattle.xor_chunk.specs.declared.before.Before.{Before}
 use Rattle.xor_chunk.proofs.Bits.{bits_of-join}
@@ -88,21 +88,21 @@ step_64 d h e f g =
 
 -- ---- values
 
-pub opening_is : (w : Window) → w.leading < 32 → bits_of 13 ((96 + w.leading) * 2 ^ 6 + width w % 64) ≡ opening w
+pub opening_is : (w : BitWindow) → w.leading < 32 → bits_of 13 ((96 + w.leading) * 2 ^ 6 + width w % 64) ≡ opening w
 unfolding opening
 opening_is w h =
     bits_of-join 7 6 (96 + w.leading) (width w % 64) (mod_below (width w) 64 (omega arith)) ∙ ap (λ (bs : List Bool). bs ++ bits_of 6 (width w % 64)) (bits_of-join 2 5 3 w.leading h ∙ ap (λ (bs : List Bool). bs ++ bits_of 5 w.leading) five_11)
 
-pub value_0 : (o : Option Window) (x : ℕ) → x ≡ 0 → (bits_of 1 0 ≡ value_bits o x) × (o ≡ window_after o x) × (false ≡ is_whole o x)
+pub value_0 : (o : Option BitWindow) (x : ℕ) → x ≡ 0 → (bits_of 1 0 ≡ value_bits o x) × (o ≡ window_after o x) × (false ≡ is_whole o x)
 unfolding value_bits window_after is_whole
 value_0 o x h = let z : eqb x 0 ≡ true = eq-eqb x 0 h in (one_0 ∙ rw z refl, rw z refl, rw z refl)
 
-pub value_new : (o : Option Window) (x : ℕ) → (x ≡ 0 → ⊥) → reused o (opened x) ≡ None
+pub value_new : (o : Option BitWindow) (x : ℕ) → (x ≡ 0 → ⊥) → reused o (opened x) ≡ None
     → (opening (opened x) ++ within (opened x) x ≡ value_bits o x) × (Some (opened x) ≡ window_after o x) × (eqb (width (opened x) % 8) 0 ≡ is_whole o x)
 unfolding value_bits window_after is_whole changed_bits
 value_new o x h e = let z : eqb x 0 ≡ false = ne_eqb x 0 h in (rw (z, e) refl, rw (z, e) refl, rw (z, e) refl)
 
-pub value_again : (o : Option Window) (x : ℕ) (w : Window) → (x ≡ 0 → ⊥) → reused o (opened x) ≡ Some w
+pub value_again : (o : Option BitWindow) (x : ℕ) (w : BitWindow) → (x ≡ 0 → ⊥) → reused o (opened x) ≡ Some w
     → (bits_of 2 2 ++ within w x ≡ value_bits o x) × (Some w ≡ window_after o x) × (eqb (width w % 8) 0 ≡ is_whole o x)
 unfolding value_bits window_after is_whole changed_bits
 value_again o x w h e = let z : eqb x 0 ≡ false = ne_eqb x 0 h in (ap (λ (bs : List Bool). bs ++ within w x) two_10 ∙ rw (z, e) refl, rw (z, e) refl, rw (z, e) refl)

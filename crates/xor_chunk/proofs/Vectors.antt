@@ -6,7 +6,7 @@ use Rattle.xor_chunk.specs.Chunks.{xor_text, chunk_bits, count_bytes, first_byte
 use Rattle.std.specs.Int.Count.{count_leading_zeros, count_trailing_zeros}
 use Rattle.hw_bytes.specs.Writing.{uvarint, uvarint_in}
 
--- an empty byte behind the value's eight
+-- an empty byte after the value's eight
 pub one : xor_text ((record { time = negsuc 999; value = pos 4631107791820423168 }) ∷ []) ≡ (0 ∷ 1 ∷ 207 ∷ 15 ∷ 64 ∷ 69 ∷ 0 ∷ 0 ∷ 0 ∷ 0 ∷ 0 ∷ 0 ∷ 0 ∷ [])
 unfolding bits_of bits_in number_of bytes_of xor_text chunk_bits count_bytes first_bytes uvarint uvarint_in
 one = refl

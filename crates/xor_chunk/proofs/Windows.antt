@@ -8,7 +8,7 @@ use Rattle.std.proofs.lemmas.Nat.{shr_split, mod-pow-add, leading_top, shr_below
 use Rattle.std.proofs.lemmas.Nat.Bits.{bit_at-trailing_zeros}
 use Rattle.xor_chunk.specs.Chunks.{opened, reused}
 use Rattle.xor_chunk.specs.Private.{Holds}
-use Rattle.xor_chunk.specs.declared.before.Window.{Window}
+use Rattle.xor_chunk.specs.declared.before.BitWindow.{BitWindow}
 
 low_zero : (x t : ℕ) → ((i : ℕ) → i < t → bit_at x i ≡ 0) → x % 2 ^ t ≡ 0
 low_zero x zero h = omega arith
@@ -19,7 +19,7 @@ low_zero x (suc t) h =
     ap (λ (k : ℕ). x % 2 ^ k) place ∙ mod-pow-add x 1 t ∙ ap (λ (d : ℕ). d * 2 ^ t + x % 2 ^ t) top ∙ omega (arith, rest)
 
 -- a window of no more zeros than there are holds each 1
-pub window_holds : (w : Window) (x : ℕ) → 0 < x → x < 2 ^ 64 → w.leading ≤ leading_zeros w64 x → w.trailing ≤ trailing_zeros w64 x → Holds w x
+pub window_holds : (w : BitWindow) (x : ℕ) → 0 < x → x < 2 ^ 64 → w.leading ≤ leading_zeros w64 x → w.trailing ≤ trailing_zeros w64 x → Holds w x
 window_holds w x some fits p q =
     let l : ℕ = w.leading in
     let t : ℕ = w.trailing in
@@ -46,26 +46,26 @@ pub opened_leading : (x : ℕ) → (opened x).leading < 32
 unfolding opened
 opened_leading x = omega arith
 
-by_test : (w v f : Window) (b : Bool) → (leb w.leading f.leading && leb w.trailing f.trailing) ≡ b → cond b (Some w) None ≡ Some v → (v ≡ w) × (w.leading ≤ f.leading) × (w.trailing ≤ f.trailing)
+by_test : (w v f : BitWindow) (b : Bool) → (leb w.leading f.leading && leb w.trailing f.trailing) ≡ b → cond b (Some w) None ≡ Some v → (v ≡ w) × (w.leading ≤ f.leading) × (w.trailing ≤ f.trailing)
 by_test w v f false e h = absurd cc
 by_test w v f true e h = (let parts = and_parts (leb w.leading f.leading) (leb w.trailing f.trailing) e in (cc, leb-true w.leading f.leading parts.0, leb-true w.trailing f.trailing parts.1))
 
-reused_less : (o : Option Window) (f w : Window) → reused o f ≡ Some w → (w.leading ≤ f.leading) × (w.trailing ≤ f.trailing)
+reused_less : (o : Option BitWindow) (f w : BitWindow) → reused o f ≡ Some w → (w.leading ≤ f.leading) × (w.trailing ≤ f.trailing)
 unfolding reused
 reused_less None f w e = absurd cc
-reused_less (Some v) f w e = (let h = by_test v w f (leb v.leading f.leading && leb v.trailing f.trailing) refl e in subst (λ (u : Window). (u.leading ≤ f.leading) × (u.trailing ≤ f.trailing)) (sym h.0) (h.1, h.2))
+reused_less (Some v) f w e = (let h = by_test v w f (leb v.leading f.leading && leb v.trailing f.trailing) refl e in subst (λ (u : BitWindow). (u.leading ≤ f.leading) × (u.trailing ≤ f.trailing)) (sym h.0) (h.1, h.2))
 
 opened_leads : (x : ℕ) → ((opened x).leading ≤ leading_zeros w64 x) × ((opened x).trailing ≤ trailing_zeros w64 x)
 unfolding opened
 opened_leads x = (omega arith, omega arith)
 
-pub reused_holds : (o : Option Window) (x : ℕ) (w : Window) → 0 < x → x < 2 ^ 64 → reused o (opened x) ≡ Some w → Holds w x
+pub reused_holds : (o : Option BitWindow) (x : ℕ) (w : BitWindow) → 0 < x → x < 2 ^ 64 → reused o (opened x) ≡ Some w → Holds w x
 reused_holds o x w some fits e =
     let less = reused_less o (opened x) w e in
     let leads = opened_leads x in
     window_holds w x some fits (omega (arith, less.0, leads.0)) (omega (arith, less.1, leads.1))
 
-pub reused_is : (o : Option Window) (f w : Window) → reused o f ≡ Some w → o ≡ Some w
+pub reused_is : (o : Option BitWindow) (f w : BitWindow) → reused o f ≡ Some w → o ≡ Some w
 unfolding reused
 reused_is None f w e = absurd cc
-reused_is (Some v) f w e = (let h = by_test v w f (leb v.leading f.leading && leb v.trailing f.trailing) refl e in ap (λ (u : Window). Some u) (sym h.0))
+reused_is (Some v) f w e = (let h = by_test v w f (leb v.leading f.leading && leb v.trailing f.trailing) refl e in ap (λ (u : BitWindow). Some u) (sym h.0))

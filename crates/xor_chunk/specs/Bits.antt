@@ -17,7 +17,7 @@ unfoldable pub number_of : List Bool → ℕ
 number_of [] = 0
 number_of (b ∷ more) = (if b then 2 ^ length more else 0) + number_of more
 
--- at most eight bits as a byte, with zeros behind them: what `writeBit` of each makes of an empty byte
+-- at most eight bits as a byte, with zeros after them: what `writeBit` of each makes of an empty byte
 abbrev pub byte_of : List Bool → ℕ
 byte_of bits = number_of (bits ++ replicate (8 - length bits) false)
 

@@ -5,7 +5,7 @@ use Rattle.std.specs.Int.{w64, cast_unsigned, leading_zeros, trailing_zeros}
 use Rattle.hw_bytes.specs.Writing.{big_bytes, uvarint, varint}
 use Rattle.xor_chunk.specs.Bits.{bits_of, bits_in, bytes_of}
 use Rattle.head_column.specs.declared.items.Sample.{Sample}
-use Rattle.xor_chunk.specs.declared.before.Window.{Window}
+use Rattle.xor_chunk.specs.declared.before.BitWindow.{BitWindow}
 use Rattle.xor_chunk.specs.declared.before.Before.{Before}
 
 -- ---- 64 bits: sums and differences wrap, and a negative number is what it is above -2^64
@@ -35,47 +35,47 @@ step_bits d = if d == 0 then false ∷ [] else if is_near 13 d then true ∷ fal
 -- ---- values: the exclusive or with the value before
 
 -- how many bits are 0 above the highest 1, at most 31, and below the lowest: `newLeading` and `newTrailing` of `xorWrite`
-unfoldable pub opened : ℕ → Window
+unfoldable pub opened : ℕ → BitWindow
 opened x = record { leading = min (leading_zeros w64 x) 31; trailing = trailing_zeros w64 x }
 
 -- `sigbits` of `xorWrite`
-abbrev pub width : Window → ℕ
+abbrev pub width : BitWindow → ℕ
 width w = 64 - w.leading - w.trailing
 
 -- the bits in the window: what `xorWrite` writes last
-unfoldable pub within : Window → ℕ → List Bool
+unfoldable pub within : BitWindow → ℕ → List Bool
 within w x = bits_of (width w) (x / 2 ^ w.trailing)
 
 -- a new window: five bits of its leading zeros, and six of its width, 0 for 64 (`xorWrite`, of whose last case this is the front)
-unfoldable pub opening : Window → List Bool
+unfoldable pub opening : BitWindow → List Bool
 opening w = true ∷ true ∷ (bits_of 5 w.leading ++ bits_of 6 (width w % 64))
 
 -- the last window, if there is one that leaves out no bit of the new one: the test of `xorWrite` before it sticks with `leading` and `trailing`
-unfoldable pub reused : Option Window → Window → Option Window
+unfoldable pub reused : Option BitWindow → BitWindow → Option BitWindow
 reused None f = None
 reused (Some w) f = if nat_le w.leading f.leading && nat_le w.trailing f.trailing then Some w else None
 
 -- the window in which bits are written: the last one, or a new one (`xorWrite`)
-abbrev pub used : Option Window → Window → Window
+abbrev pub used : Option BitWindow → BitWindow → BitWindow
 used None f = f
 used (Some w) f = w
 
 -- `xorWrite` of values that differ
-unfoldable pub changed_bits : Option Window → ℕ → List Bool
+unfoldable pub changed_bits : Option BitWindow → ℕ → List Bool
 changed_bits None x = opening (opened x) ++ within (opened x) x
 changed_bits (Some w) x = true ∷ false ∷ within w x
 
 -- 0 if the value is the same; else its bits in the last window, or a new window and its bits in that: `xorWrite`, which `writeVDelta` calls
-unfoldable pub value_bits : Option Window → ℕ → List Bool
+unfoldable pub value_bits : Option BitWindow → ℕ → List Bool
 value_bits o x = if x == 0 then false ∷ [] else changed_bits (reused o (opened x)) x
 
 -- `leading` and `trailing` of the appender, after `xorWrite`
-unfoldable pub window_after : Option Window → ℕ → Option Window
+unfoldable pub window_after : Option BitWindow → ℕ → Option BitWindow
 window_after o x = if x == 0 then o else Some (used (reused o (opened x)) (opened x))
 
 -- the last number that is written of a value has whole bytes, so that `writeBits` of bstream.go ends with `writeByte`; the one bit that says that
 -- the value is the same has not: that is `writeBit`
-unfoldable pub is_whole : Option Window → ℕ → Bool
+unfoldable pub is_whole : Option BitWindow → ℕ → Bool
 is_whole o x = if x == 0 then false else width (used (reused o (opened x)) (opened x)) % 8 == 0
 
 -- ---- samples
@@ -102,7 +102,7 @@ ends_whole whole b (s ∷ more) = ends_whole (is_whole b.window (bit_xor b.value
 abbrev pub second : Sample → Sample → Before
 second a b = record { time = pattern b.time; value = pattern b.value; delta = minus (pattern b.time) (pattern a.time); window = window_after None (bit_xor (pattern a.value) (pattern b.value)) }
 
--- the second value, and the samples behind it: `xorAppender.Append` from `writeVDelta` of the second sample on
+-- the second value, and the samples after it: `xorAppender.Append` from `writeVDelta` of the second sample on
 abbrev pub tail_bits : Sample → Sample → List Sample → List Bool
 tail_bits a b more = value_bits None (bit_xor (pattern a.value) (pattern b.value)) ++ samples_bits (second a b) more
 
@@ -125,7 +125,7 @@ head_bytes [] = []
 head_bytes (a ∷ []) = first_bytes a
 head_bytes (a ∷ b ∷ more) = first_bytes a ++ delta_bytes a b
 
--- what `xorAppender.Append` writes behind that
+-- what `xorAppender.Append` writes after that
 abbrev pub behind_head : List Sample → List Bool
 behind_head [] = []
 behind_head (a ∷ []) = []
@@ -142,7 +142,7 @@ unfoldable pub chunk_bits : List Sample → List Bool
 chunk_bits samples = bits_in (count_bytes (length samples) ++ head_bytes samples) ++ behind_head samples
 
 -- The chunk of samples: what `XORChunk.Bytes` gives after `xorAppender.Append` of each. Their bits as bytes; but `writeByte` of bstream.go begins a
--- byte as soon as the one before is full, and `writeBit` does not: so one bit more is left behind a last number of whole bytes.
+-- byte as soon as the one before is full, and `writeBit` does not: so one bit more is left after a last number of whole bytes.
 unfoldable pub xor_text : List Sample → List ℕ
 xor_text samples = bytes_of (chunk_bits samples ++ (if is_whole_chunk samples then false ∷ [] else []))
 

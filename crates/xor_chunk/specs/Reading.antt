@@ -8,12 +8,12 @@ use Rattle.hw_bytes.specs.Reading.{uvarint_at, varint_at}
 use Rattle.xor_chunk.specs.Bits.{bits_in}
 use Rattle.xor_chunk.specs.Chunks.{plus, pattern, width}
 use Rattle.head_column.specs.declared.items.Sample.{Sample}
-use Rattle.xor_chunk.specs.declared.before.Window.{Window}
+use Rattle.xor_chunk.specs.declared.before.BitWindow.{BitWindow}
 use Rattle.xor_chunk.specs.declared.before.Before.{Before}
 use Rattle.xor_chunk.specs.declared.fault.XorFault.{XorFault}
 use Rattle.xor_chunk.specs.declared.fault.XorFault.TheVariants.{TooShort, BadNumber, BadWindow}
 
--- the number in the first k bits, and the bits behind it: `readBits(k)` of bstream.go
+-- the number in the first k bits, and the bits after it: `readBits(k)` of bstream.go
 unfoldable pub number_at : ℕ → List Bool → Option (ℕ × List Bool)
 number_at zero bits = Some (0, bits)
 number_at (suc k) [] = None
@@ -44,7 +44,7 @@ step_at (true ∷ true ∷ true ∷ true ∷ bits) = number_at 64 bits
 
 -- the exclusive or of two values, from the bits in the window: what `xorRead` reads last. Before any window is opened all bits are in it, as in the
 -- server's new iterator, whose `leading` and `trailing` are 0.
-unfoldable pub within_at : Option Window → List Bool → Option (ℕ × List Bool)
+unfoldable pub within_at : Option BitWindow → List Bool → Option (ℕ × List Bool)
 within_at None bits = number_at 64 bits
 within_at (Some w) bits = option_map (λ x. (x.0 * 2 ^ w.trailing, x.1)) (number_at (width w) bits)
 
@@ -66,22 +66,22 @@ abbrev pub said_width : ℕ → ℕ
 said_width n = if n == 0 then 64 else n
 
 -- the window that eleven bits say: `newLeading` and `newTrailing` of `xorRead`, which does not look whether there are 64
-unfoldable pub window_of : ℕ → Result Window XorFault
+unfoldable pub window_of : ℕ → Result BitWindow XorFault
 window_of head = if nat_lt 64 (head / 64 + said_width (head % 64)) then Err BadWindow else Ok (record { leading = head / 64; trailing = 64 - head / 64 - said_width (head % 64) })
 
-unfoldable pub window_at : List Bool → Result (Window × List Bool) XorFault
+unfoldable pub window_at : List Bool → Result (BitWindow × List Bool) XorFault
 window_at bits = do
   head ← or_short (number_at 11 bits)
   w ← window_of head.0
   Ok (w, head.1)
 
--- a value behind the one before, and the window after it: `xorRead`, which `readValue` calls, and below its two cases of a value that differs
-unfoldable pub changed_at : ℕ → Option Window → List Bool → Result (ℕ × Option Window × List Bool) XorFault
+-- a value after the one before, and the window after it: `xorRead`, which `readValue` calls, and below its two cases of a value that differs
+unfoldable pub changed_at : ℕ → Option BitWindow → List Bool → Result (ℕ × Option BitWindow × List Bool) XorFault
 changed_at v o bits = do
   xor ← or_short (within_at o bits)
   Ok (bit_xor v xor.0, o, xor.1)
 
-unfoldable pub value_at : Option Window → ℕ → List Bool → Result (ℕ × Option Window × List Bool) XorFault
+unfoldable pub value_at : Option BitWindow → ℕ → List Bool → Result (ℕ × Option BitWindow × List Bool) XorFault
 value_at o v [] = Err TooShort
 value_at o v (false ∷ bits) = Ok (v, o, bits)
 value_at o v (true ∷ []) = Err TooShort
@@ -91,7 +91,7 @@ value_at o v (true ∷ true ∷ bits) = window_at bits >>= λ x. changed_at v (S
 -- ---- samples
 
 -- `t`, `val`, `tDelta` and the window that `xorIterator.Next` leaves
-abbrev pub next : Before → ℕ → ℕ → Option Window → Before
+abbrev pub next : Before → ℕ → ℕ → Option BitWindow → Before
 next b step v o = record { time = plus b.time (plus b.delta step); value = v; delta = plus b.delta step; window = o }
 
 -- a third or later sample: the last part of `xorIterator.Next`
@@ -104,7 +104,7 @@ sample_at b bits = do
 abbrev pub sample_of : Before → Sample
 sample_of b = record { time = cast_signed w64 b.time; value = cast_signed w64 b.value }
 
--- so many samples behind those that are read: `xorIterator.Next` until `numRead` is `numTotal`
+-- so many samples after those that are read: `xorIterator.Next` until `numRead` is `numTotal`
 unfoldable pub samples_at : ℕ → List Sample → Before → List Bool → Result (List Sample) XorFault
 samples_at zero read b bits = Ok read
 samples_at (suc n) read b bits = sample_at b bits >>= λ x. samples_at n (read ++ sample_of x.0 ∷ []) x.0 x.1
@@ -112,10 +112,10 @@ samples_at (suc n) read b bits = sample_at b bits >>= λ x. samples_at n (read +
 -- ---- chunks
 
 -- the second sample, as the one before the third
-abbrev pub second_of : ℕ → ℕ → ℕ → Option Window → Before
+abbrev pub second_of : ℕ → ℕ → ℕ → Option BitWindow → Before
 second_of time delta v o = record { time = plus time delta; value = v; delta = delta; window = o }
 
--- the bits behind the second time: `xorIterator.Next` from `readValue` of the second sample on
+-- the bits after the second time: `xorIterator.Next` from `readValue` of the second sample on
 unfoldable pub tail_at : ℕ → Sample → ℕ → List Bool → Result (List Sample) XorFault
 tail_at count first delta bits = do
   value ← value_at None (pattern first.value) bits
@@ -125,15 +125,15 @@ abbrev pub or_bad : {X : Type 0} → Option X → Result X XorFault
 or_bad None = Err BadNumber
 or_bad (Some x) = Ok x
 
--- the bytes behind the first sample: `xorIterator.Next` where `numRead` is 1
+-- the bytes after the first sample: `xorIterator.Next` where `numRead` is 1
 unfoldable pub second_at : ℕ → Sample → List ℕ → Result (List Sample) XorFault
 second_at count first bytes = if count == 1 then Ok (first ∷ []) else or_bad (uvarint_at bytes) >>= λ delta. tail_at count first delta.0 (bits_in (drop delta.1 bytes))
 
--- the bytes behind the first time
+-- the bytes after the first time
 unfoldable pub value_behind : ℕ → ℤ → List ℕ → Result (List Sample) XorFault
 value_behind count time bytes = if nat_lt (length bytes) 8 then Err TooShort else second_at count (record { time = time; value = cast_signed w64 (big_number 8 bytes) }) (drop 8 bytes)
 
--- the bytes behind the number of samples: `xorIterator.Next` where `numRead` is 0
+-- the bytes after the number of samples: `xorIterator.Next` where `numRead` is 0
 unfoldable pub first_at : ℕ → List ℕ → Result (List Sample) XorFault
 first_at count bytes = if count == 0 then Ok [] else or_bad (varint_at bytes) >>= λ time. value_behind count time.0 (drop time.1 bytes)
 

@@ -8,12 +8,12 @@ use head_column::Sample;
 
 // How many of the 64 bits are zeros, above and below those that are written.
 #[derive(Clone, Copy, Debug)]
-pub(crate) struct Window {
+pub(crate) struct BitWindow {
     pub(crate) leading: u32,
     pub(crate) trailing: u32,
 }
 
-impl Window {
+impl BitWindow {
     // Returns how many bits are written.
     pub(crate) fn width(&self) -> u32
         requires { self.now.leading + self.now.trailing ≤ 64 }
@@ -29,7 +29,7 @@ pub(crate) struct Before {
     pub(crate) time: u64,
     pub(crate) value: u64,
     pub(crate) delta: u64,
-    pub(crate) window: Option<Window>,
+    pub(crate) window: Option<BitWindow>,
 }
 
 impl Before {

@@ -10,7 +10,7 @@ ghost use Rattle.xor_chunk.specs.Reading.{found_map, near_at, step_at, within_at
 ghost use Rattle.xor_chunk.specs.declared.fault.XorFault.{XorFault};
 ghost use Rattle.head_column.specs.declared.items.Sample.{Sample};
 
-use crate::before::{Before, Window};
+use crate::before::{Before, BitWindow};
 use crate::encoding::encode;
 use crate::facts::{are_bytes, are_fit};
 use crate::fault::XorFault;
@@ -20,11 +20,11 @@ use hw_bytes::{be16_at, be64_at, uvarint_at, varint_at};
 use std::alloc::{AllocError, Global};
 
 // Takes a number above -2^near and at most 2^near.
-fn take_near(bits: &mut BitReader<'_>, near: u32) -> Option<u64>
+fn read_near(bits: &mut BitReader<'_>, near: u32) -> Option<u64>
     requires { near < 32 }
     ensures { option_map (λ step. (step, bits.new)) result ≡ near_at near bits.old }
 {
-    let low = bits.take(near + 1)?;
+    let low = bits.read_bits(near + 1)?;
     if low > 1 << near {
         return Some(low + (u64::MAX - (1 << (near + 1))) + 1);
     }
@@ -32,33 +32,33 @@ fn take_near(bits: &mut BitReader<'_>, near: u32) -> Option<u64>
 }
 
 // Takes the difference of two differences of times.
-fn take_step(bits: &mut BitReader<'_>) -> Option<u64>
+fn read_step(bits: &mut BitReader<'_>) -> Option<u64>
     ensures { option_map (λ step. (step, bits.new)) result ≡ step_at bits.old }
 {
-    if !bits.take_bit()? {
+    if !bits.read_bit()? {
         return Some(0);
     }
-    if !bits.take_bit()? {
-        return take_near(bits, 13);
+    if !bits.read_bit()? {
+        return read_near(bits, 13);
     }
-    if !bits.take_bit()? {
-        return take_near(bits, 16);
+    if !bits.read_bit()? {
+        return read_near(bits, 16);
     }
-    if !bits.take_bit()? {
-        return take_near(bits, 19);
+    if !bits.read_bit()? {
+        return read_near(bits, 19);
     }
-    bits.take_long(64)
+    bits.read_long(64)
 }
 
 // Takes the bits in the window.
-fn take_within(bits: &mut BitReader<'_>, window: Option<Window>) -> Option<u64>
+fn read_within(bits: &mut BitReader<'_>, window: Option<BitWindow>) -> Option<u64>
     requires { IsOpen window }
     ensures { option_map (λ xor. (xor, bits.new)) result ≡ within_at window bits.old }
 {
     let Some(open) = window else {
-        return bits.take_long(64);
+        return bits.read_long(64);
     };
-    let number = bits.take_long(open.width())?;
+    let number = bits.read_long(open.width())?;
     Some(number << open.trailing)
 }
 
@@ -73,7 +73,7 @@ fn said_width(low: u32) -> u32
 }
 
 // Returns the window that eleven bits say.
-fn said_window(head: u64) -> Result<Window, XorFault>
+fn said_window(head: u64) -> Result<BitWindow, XorFault>
     requires { head < 2 ^ 11 }
     ensures exact { result ≡ window_of head }
     ensures open { IfOk result (λ window. IsOpen (Some window)) }
@@ -83,76 +83,76 @@ fn said_window(head: u64) -> Result<Window, XorFault>
     if leading + width > 64 {
         return Err(XorFault::BadWindow);
     }
-    Ok(Window {
+    Ok(BitWindow {
         leading,
         trailing: 64 - leading - width,
     })
 }
 
 // Takes a window.
-fn take_window(bits: &mut BitReader<'_>) -> Result<Window, XorFault>
+fn read_window(bits: &mut BitReader<'_>) -> Result<BitWindow, XorFault>
     ensures exact { found_map (λ window. (window, bits.new)) result ≡ window_at bits.old }
     ensures open { IfOk result (λ window. IsOpen (Some window)) }
 {
-    let Some(head) = bits.take(11) else {
+    let Some(head) = bits.read_bits(11) else {
         return Err(XorFault::TooShort);
     };
     said_window(head)
 }
 
 // Takes a value that is not the one before, and gives it with the window after it.
-fn take_changed(
+fn read_changed(
     bits: &mut BitReader<'_>,
-    window: Option<Window>,
+    window: Option<BitWindow>,
     value: u64,
-) -> Result<(u64, Option<Window>), XorFault>
+) -> Result<(u64, Option<BitWindow>), XorFault>
     requires { IsOpen window }
     ensures exact { found_map (λ found. (found.0, found.1, bits.new)) result ≡ changed_at value window bits.old }
     ensures open { IfOk result (λ found. IsOpen found.1) }
 {
-    let Some(xor) = take_within(bits, window) else {
+    let Some(xor) = read_within(bits, window) else {
         return Err(XorFault::TooShort);
     };
     Ok((value ^ xor, window))
 }
 
-// Takes a value behind the one before, and gives it with the window after it.
-fn take_value(
+// Takes a value after the one before, and gives it with the window after it.
+fn read_value(
     bits: &mut BitReader<'_>,
-    window: Option<Window>,
+    window: Option<BitWindow>,
     value: u64,
-) -> Result<(u64, Option<Window>), XorFault>
+) -> Result<(u64, Option<BitWindow>), XorFault>
     requires { IsOpen window }
     ensures exact { found_map (λ found. (found.0, found.1, bits.new)) result ≡ value_at window value bits.old }
     ensures open { IfOk result (λ found. IsOpen found.1) }
 {
-    let Some(changed) = bits.take_bit() else {
+    let Some(changed) = bits.read_bit() else {
         return Err(XorFault::TooShort);
     };
     if !changed {
         return Ok((value, window));
     }
-    let Some(opens) = bits.take_bit() else {
+    let Some(opens) = bits.read_bit() else {
         return Err(XorFault::TooShort);
     };
     if !opens {
-        return take_changed(bits, window, value);
+        return read_changed(bits, window, value);
     }
-    let window = take_window(bits)?;
-    take_changed(bits, Some(window), value)
+    let window = read_window(bits)?;
+    read_changed(bits, Some(window), value)
 }
 
-// Takes a sample behind two or more others.
-fn take_sample(bits: &mut BitReader<'_>, before: Before) -> Result<Before, XorFault>
+// Takes a sample after two or more others.
+fn read_sample(bits: &mut BitReader<'_>, before: Before) -> Result<Before, XorFault>
     requires { IsOpen before.window }
     ensures exact { found_map (λ next. (next, bits.new)) result ≡ sample_at before bits.old }
     ensures open { IfOk result (λ next. IsOpen next.window) }
 {
-    let Some(step) = take_step(bits) else {
+    let Some(step) = read_step(bits) else {
         return Err(XorFault::TooShort);
     };
     let delta = before.delta.wrapping_add(step);
-    let (value, window) = take_value(bits, before.window, before.value)?;
+    let (value, window) = read_value(bits, before.window, before.value)?;
     Ok(Before {
         time: before.time.wrapping_add(delta),
         value,
@@ -169,8 +169,8 @@ fn append(samples: &mut Vec<Sample>, sample: Sample) -> Result<(), AllocError>
     Ok(())
 }
 
-// Appends so many samples behind two or more others.
-fn take_samples(
+// Appends so many samples after two or more others.
+fn read_samples(
     bits: &mut BitReader<'_>,
     count: usize,
     before: Before,
@@ -182,14 +182,14 @@ fn take_samples(
 {
     let mut before = before;
     for _i in 0..count {
-        before = take_sample(bits, before)?;
+        before = read_sample(bits, before)?;
         append(samples, before.sample())?;
     }
     Ok(())
 }
 
-// Appends all samples behind the first one, of which there are two or more.
-fn take_tail(
+// Appends all samples after the first one, of which there are two or more.
+fn read_tail(
     bytes: &[u8],
     count: usize,
     first: Sample,
@@ -202,7 +202,7 @@ fn take_tail(
     ensures fault { IfErr result (λ fault. fault ≢ XorFault.Memory → tail_at count first delta (bits_in bytes.now) ≡ Err fault) }
 {
     let mut bits = BitReader::new(bytes);
-    let (value, window) = take_value(&mut bits, None, first.value.cast_unsigned())?;
+    let (value, window) = read_value(&mut bits, None, first.value.cast_unsigned())?;
     let before = Before {
         time: first.time.cast_unsigned().wrapping_add(delta),
         value,
@@ -210,11 +210,11 @@ fn take_tail(
         window,
     };
     append(samples, before.sample())?;
-    take_samples(&mut bits, count - 2, before, samples)
+    read_samples(&mut bits, count - 2, before, samples)
 }
 
-// Appends the first sample and those behind it, of which there are so many in all.
-fn take_second(
+// Appends the first sample and those after it, of which there are so many in all.
+fn read_second(
     bytes: &[u8],
     count: usize,
     first: Sample,
@@ -233,11 +233,11 @@ fn take_second(
         return Err(XorFault::BadNumber);
     };
     let (_, rest) = bytes.split_at(len);
-    take_tail(rest, count, first, delta, samples)
+    read_tail(rest, count, first, delta, samples)
 }
 
 // Appends samples, of which there are so many.
-fn take_first(bytes: &[u8], count: usize, samples: &mut Vec<Sample>) -> Result<(), XorFault>
+fn read_first(bytes: &[u8], count: usize, samples: &mut Vec<Sample>) -> Result<(), XorFault>
     requires { samples.old.items ≡ [] }
     ensures found { OnOk result (first_at count bytes.now ≡ Ok samples.new.items) }
     ensures fault { IfErr result (λ fault. fault ≢ XorFault.Memory → first_at count bytes.now ≡ Err fault) }
@@ -257,12 +257,12 @@ fn take_first(bytes: &[u8], count: usize, samples: &mut Vec<Sample>) -> Result<(
         time,
         value: value.cast_signed(),
     };
-    take_second(rest, count, first, samples)
+    read_second(rest, count, first, samples)
 }
 
 /// Replaces the items of `samples` by the samples of a chunk, or returns the fault at which the bytes stop being one; `samples` then holds any.
 ///
-/// Accepts more than the chunks that are written: a number or a window may have more bits than it needs, and what is behind the last
+/// Accepts more than the chunks that are written: a number or a window may have more bits than it needs, and what is after the last
 /// sample is not read.
 pub fn decode_in(bytes: &[u8], samples: &mut Vec<Sample>) -> Result<(), XorFault>
     ensures found { OnOk result (unpacked bytes.now ≡ Ok samples.new.items) }
@@ -275,7 +275,7 @@ pub fn decode_in(bytes: &[u8], samples: &mut Vec<Sample>) -> Result<(), XorFault
         return Err(XorFault::TooShort);
     };
     let (_, behind) = bytes.split_at(2);
-    take_first(behind, usize::from(count), samples)
+    read_first(behind, usize::from(count), samples)
 }
 
 /// Returns the samples of a chunk, or the fault at which the bytes stop being one.

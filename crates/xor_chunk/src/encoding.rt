@@ -6,7 +6,7 @@ ghost use Rattle.xor_chunk.specs.Bits.{bits_in};
 ghost use Rattle.xor_chunk.specs.Private.{Holds, IsPacked};
 ghost use Rattle.xor_chunk.specs.Chunks.{step_bits, opened, opening, reused, within, value_bits, window_after, sample_bits, after, is_whole, ends_whole, is_whole_chunk, samples_bits, tail_bits, count_bytes, first_bytes, delta_bytes, is_near as near_of, xor_text, pattern};
 
-use crate::before::{Before, Window};
+use crate::before::{Before, BitWindow};
 use crate::writer::BitWriter;
 use head_column::Sample;
 use hw_bytes::{put_be16, put_be64, put_uvarint, put_varint};
@@ -42,17 +42,17 @@ fn put_step(bits: &mut BitWriter, step: u64) -> Result<(), AllocError>
 }
 
 // Returns the window of the bits that are not 0.
-fn opened_window(xor: u64) -> Window
+fn opened_window(xor: u64) -> BitWindow
     ensures { result ≡ opened xor }
 {
-    Window {
+    BitWindow {
         leading: xor.leading_zeros().min(31),
         trailing: xor.trailing_zeros(),
     }
 }
 
 // Appends the bits in the window.
-fn put_within(bits: &mut BitWriter, window: Window, xor: u64) -> Result<(), AllocError>
+fn put_within(bits: &mut BitWriter, window: BitWindow, xor: u64) -> Result<(), AllocError>
     requires fits { Holds window xor }
     ensures { OnOk result (bits.new ≡ bits.old ++ within window xor) }
 {
@@ -60,7 +60,7 @@ fn put_within(bits: &mut BitWriter, window: Window, xor: u64) -> Result<(), Allo
 }
 
 // Returns the last window, if there is one that leaves out no bit of the new one.
-fn reused_window(window: Option<Window>, fresh: Window) -> Option<Window>
+fn reused_window(window: Option<BitWindow>, fresh: BitWindow) -> Option<BitWindow>
     ensures { result ≡ reused window fresh }
 {
     let open = window?;
@@ -71,7 +71,7 @@ fn reused_window(window: Option<Window>, fresh: Window) -> Option<Window>
 }
 
 // Appends what opens a window.
-fn put_opening(bits: &mut BitWriter, window: Window) -> Result<(), AllocError>
+fn put_opening(bits: &mut BitWriter, window: BitWindow) -> Result<(), AllocError>
     requires leading { window.leading < 32 }
     requires some { window.leading + window.trailing < 64 }
     ensures { OnOk result (bits.new ≡ bits.old ++ opening window) }
@@ -84,9 +84,9 @@ fn put_opening(bits: &mut BitWriter, window: Window) -> Result<(), AllocError>
 // was written has whole bytes.
 fn put_value(
     bits: &mut BitWriter,
-    window: Option<Window>,
+    window: Option<BitWindow>,
     xor: u64,
-) -> Result<(Option<Window>, bool), AllocError>
+) -> Result<(Option<BitWindow>, bool), AllocError>
     ensures put { OnOk result (bits.new ≡ bits.old ++ value_bits window xor) }
     ensures after { IfOk result (λ next. next.0 ≡ window_after window xor) }
     ensures whole { IfOk result (λ next. next.1 ≡ is_whole window xor) }
@@ -106,7 +106,7 @@ fn put_value(
     Ok((Some(open), open.width() % 8 == 0))
 }
 
-// Appends a sample behind two or more others. Returns what is kept of it, and whether the last number that was written has whole bytes.
+// Appends a sample after two or more others. Returns what is kept of it, and whether the last number that was written has whole bytes.
 fn put_sample(
     bits: &mut BitWriter,
     before: Before,
@@ -130,7 +130,7 @@ fn put_sample(
     Ok((next, whole))
 }
 
-// Appends samples behind two or more others. Returns whether the last number that was written has whole bytes, where that before them has
+// Appends samples after two or more others. Returns whether the last number that was written has whole bytes, where that before them has
 // or has not.
 fn put_samples(
     bits: &mut BitWriter,
@@ -151,7 +151,7 @@ fn put_samples(
     Ok(whole)
 }
 
-// Appends what is bits of the second sample, and all samples behind it. Returns whether the last number that was written has whole bytes.
+// Appends what is bits of the second sample, and all samples after it. Returns whether the last number that was written has whole bytes.
 fn put_tail(
     bits: &mut BitWriter,
     first: Sample,
@@ -198,7 +198,7 @@ fn put_delta(bytes: &mut Vec<u8>, first: Sample, second: Sample) -> Result<(), A
     put_uvarint(bytes, delta)
 }
 
-// Returns the bytes with those of the samples behind the first one.
+// Returns the bytes with those of the samples after the first one.
 fn with_more(
     bytes: Vec<u8>,
     first: Sample,

@@ -4,12 +4,12 @@ use std::alloc::AllocError;
 use std::error::Error;
 use std::fmt;
 
-/// The error of decoding a chunk: the first fault from the front, except that `Memory` can come before any and `NotCanonical` comes behind all.
+/// The error of decoding a chunk: the first fault from the front, except that `Memory` can come before any and `NotCanonical` comes after all.
 #[derive(Clone, Copy, Debug, PartialEq, Eq)]
 pub enum XorFault {
     /// The bytes end before the last sample does.
     TooShort,
-    /// There is no varint of 64 bits where the first time or the first difference of times stands.
+    /// There is no varint of 64 bits where the first time or the first difference of times is.
     BadNumber,
     /// A window is wider than what it leaves of 64 bits.
     BadWindow,

@@ -8,7 +8,7 @@ ghost use Rattle.xor_chunk.specs.Reading.{unpacked};
 ghost use Rattle.head_column.specs.declared.items.Sample.{Sample};
 
 /// A chunk stands for one list of at most 65,535 samples. A list has one chunk, which `xor_text` gives.
-pub fn one_chunk()
+pub fn one_xor_chunk()
     ensures { (a b : List Sample) → length a ≤ 65535 → length b ≤ 65535 → All IsFit a → All IsFit b → xor_text a ≡ xor_text b → a ≡ b }
 {}
 
@@ -22,7 +22,7 @@ pub fn short_chunk()
     ensures { (samples : List Sample) → length samples ≤ 120 → length (xor_text samples) ≤ 2180 }
 {}
 
-/// Two chunks that the server's own writer made: one sample, with an empty byte behind its value, and six with a value that stays, windows
+/// Two chunks that the server's own writer made: one sample, with an empty byte after its value, and six with a value that stays, windows
 /// that are new and used again, and steps of 14 and 17 bits.
 pub fn server_chunks()
     ensures one { xor_text ((record { time = negsuc 999; value = pos 4631107791820423168 }) ∷ []) ≡ (0 ∷ 1 ∷ 207 ∷ 15 ∷ 64 ∷ 69 ∷ 0 ∷ 0 ∷ 0 ∷ 0 ∷ 0 ∷ 0 ∷ 0 ∷ []) }

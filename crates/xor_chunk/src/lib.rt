@@ -14,4 +14,4 @@ mod writer;
 pub use decoding::{decode, decode_exact, decode_in};
 pub use encoding::{encode, encode_in};
 pub use fault::XorFault;
-pub use laws::{near_numbers, one_chunk, reads_back, server_chunks, short_chunk};
+pub use laws::{near_numbers, one_xor_chunk, reads_back, server_chunks, short_chunk};

@@ -9,7 +9,7 @@ use crate::facts::are_bytes;
 use std::alloc::AllocError;
 use std::marker::Model;
 
-// Bytes, and behind them some bits that do not fill a byte. Contracts see all of the bits.
+// Bytes, and after them some bits that do not fill a byte. Contracts see all of the bits.
 #[derive(Drop)]
 pub(crate) struct BitWriter {
     bytes: Vec<u8>,
@@ -29,7 +29,7 @@ impl Model for BitWriter {
 }
 
 impl BitWriter {
-    // Goes on behind these bytes.
+    // Goes on after these bytes.
     pub(crate) fn behind(bytes: Vec<u8>) -> BitWriter
         ensures { result ≡ bits_in bytes.items }
     {

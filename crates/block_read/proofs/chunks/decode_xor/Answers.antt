@@ -21,4 +21,4 @@ returns-in_err-samples-clause-bad c = λ was part h e.
 pub returns-clause-only : goal.returns-clause-only
 returns-clause-only c = λ part h e.
     let chunk = c.in_ok-samples.ensures.found in
-    c.one_chunk.ensures c.in_ok-samples.samples.items part chunk.0.few (omega (arith, h.few)) chunk.1 h.fit (sym chunk.0.is ∙ e)
+    c.one_xor_chunk.ensures c.in_ok-samples.samples.items part chunk.0.few (omega (arith, h.few)) chunk.1 h.fit (sym chunk.0.is ∙ e)

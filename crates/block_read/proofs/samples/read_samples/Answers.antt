@@ -11,8 +11,8 @@ loop-row-init c = (so_far_none c.args.encoding c.args.rows.now c.new-again.resul
 pub loop-row-preserved : goal.loop-row-preserved
 loop-row-preserved c =
     let so_far = c.loop-row.invariant.0 in (
-      so_far_more c.args.rows.now c.loop-row.again c.take_row.new.again c.loop-row.samples.items c.push.new.self.items c.loop-row.row-index c.row-item.result c.in_ok-read.read.items c.from_vec.result c.loop-row-test.true c.row-item.is so_far
-          c.take_row.ensures.limit c.take_row.ensures.encoding c.in_ok-read.ensures.column (c.in_ok-read.ensures.written (texts (chunks_of_rows c.args.encoding c.loop-row.samples.items)) so_far.files)
+      so_far_more c.args.rows.now c.loop-row.again c.read_checked_row.new.again c.loop-row.samples.items c.push.new.self.items c.loop-row.row-index c.row-item.result c.in_ok-read.read.items c.from_vec.result c.loop-row-test.true c.row-item.is so_far
+          c.read_checked_row.ensures.limit c.read_checked_row.ensures.encoding c.in_ok-read.ensures.column (c.in_ok-read.ensures.written (texts (chunks_of_rows c.args.encoding c.loop-row.samples.items)) so_far.files)
           (sym c.as_slice.ensures ∙ c.in_ok-read.ensures.named (texts (chunks_of_rows c.args.encoding c.loop-row.samples.items)) so_far.files) c.from_vec.ensures c.in_ok-push.ensures.items,
       λ all h.
           let first = c.loop-row.invariant.1 all h in
@@ -23,9 +23,9 @@ loop-row-preserved c =
 
 pub returns-in_err-read-clause-bad : goal.returns-in_err-read-clause-bad
 returns-in_err-read-clause-bad c = λ was all h.
-    let bad : c.take_row.result ≡ Err Bad = search rules in
+    let bad : c.read_checked_row.result ≡ Err Bad = search rules in
     let here = here_at c.short_chunk.ensures c.args.files.now c.args.rows.now all c.loop-row.samples.items c.loop-row.row-index c.row-item.result c.as_slice.result.now c.loop-row-test.true c.row-item.is c.as_slice.ensures (c.loop-row.invariant.1 all h) h in
-    c.take_row.ensures.bad bad (texts (chunks_of_rows c.args.encoding c.loop-row.samples.items)) c.loop-row.invariant.0.files (get_or all c.loop-row.row-index []) here.column here.are_there here.named here.few
+    c.read_checked_row.ensures.bad bad (texts (chunks_of_rows c.args.encoding c.loop-row.samples.items)) c.loop-row.invariant.0.files (get_or all c.loop-row.row-index []) here.column here.are_there here.named here.few
 
 pub returns-then-not-are_same-clause-bad : goal.returns-then-not-are_same-clause-bad
 returns-then-not-are_same-clause-bad c = λ was all h.

@@ -7,8 +7,8 @@ loop-count-preserved c =
     let i = c.loop-count.invariant in
     let some : 0 < length c.loop-count.rest = omega (arith, c.loop-count-test.true, i.count) in
     record {
-      cut = cut_more c.loop-count.chunks.items c.push.new.self.items c.loop-count.rest (take c.loop-count.count c.loop-count.rest) c.take_chunk.new.rest c.args.samples
-          c.in_ok-take_chunk.field-0 c.loop-count.count i.cut some i.count refl c.in_ok-take_chunk.ensures.rest c.in_ok-take_chunk.ensures.chunk c.in_ok-push.ensures.items;
+      cut = cut_more c.loop-count.chunks.items c.push.new.self.items c.loop-count.rest (take c.loop-count.count c.loop-count.rest) c.next_chunk.new.rest c.args.samples
+          c.in_ok-next_chunk.field-0 c.loop-count.count i.cut some i.count refl c.in_ok-next_chunk.ensures.rest c.in_ok-next_chunk.ensures.chunk c.in_ok-push.ensures.items;
       count = c.count_to-count-in-loop-count.ensures;
       none = λ e. (let l = ap length (i.none e) in absurd (omega (arith, some, l)));
     }

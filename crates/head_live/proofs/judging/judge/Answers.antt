@@ -28,17 +28,17 @@ index_mut-requires c =
     standing_within c.args.head.now.content (map (λ s. s.value) c.rows.inside.sets.items) c.in_ok-standings.standings.items c.rows.inside.rows.items c.deref-row-items.result.now c.deref-row-items.ensures.value c.rows.invariant
     c.loop-row.row-index _ c.loop-row.standings.items _ _ _ _ _ c.loop-row.standings.ok.0 c.loop-row.invariant.judges c.loop-row-test.true
 
-pub returns-in_err-take-clause-spent : goal.returns-in_err-take-clause-spent
-returns-in_err-take-clause-spent c =
-    let p = err_from_is_err_and c.from_residual-in_err-take.result c.from_residual-in_err-take.ensures.1 in
+pub returns-in_err-judge_row-clause-spent : goal.returns-in_err-judge_row-clause-spent
+returns-in_err-judge_row-clause-spent c =
+    let p = err_from_is_err_and c.from_residual-in_err-judge_row.result c.from_residual-in_err-judge_row.ensures.1 in
     let is = p.1 in
     let of = p.2 in
-    let was = c.in_err-take.was in
+    let was = c.in_err-judge_row.was in
     λ e.
-    let spent : c.take.result ≡ Err RefsSpent = cc in
+    let spent : c.judge_row.result ≡ Err RefsSpent = cc in
     let same : to_z w64 (of_z w64 c.min_valid-min_valid.result) ≡ c.min_valid-min_valid.result = search (rules, to_z-of_z) in
     let time : to_z w64 (of_z w64 c.min_valid-min_valid.result) ≡ c.args.head.now.content.min_valid = same ∙ c.min_valid-min_valid.ensures in
-    let q = c.take.ensures.spent spent in
+    let q = c.judge_row.ensures.spent spent in
     rw (← c.rows.view_is) (judged_spent c.args.head.now.content (map (λ s. s.value) c.rows.inside.sets.items) c.in_ok-standings.standings.items c.rows.inside.rows.items c.deref-row-items.result.now c.deref-row-items.ensures.value c.rows.invariant
     c.loop-row.row-index _ c.loop-row.standings.items c.index_mut.result.now c.loop-row.next _ _ _ c.loop-row.invariant.starts c.loop-row.invariant.judges c.loop-row-test.true c.index_mut.ensures.value _ time q.0 q.1 q.2)
 
@@ -55,8 +55,8 @@ loop-row-preserved c =
     let time : to_z w64 (of_z w64 c.min_valid-min_valid.result) ≡ c.args.head.now.content.min_valid = same ∙ c.min_valid-min_valid.ensures in record {
       starts = c.loop-row.invariant.starts;
       judges = judged_more c.args.head.now.content sets c.in_ok-standings.standings.items c.rows.inside.rows.items c.deref-row-items.result.now c.deref-row-items.ensures.value c.rows.invariant
-          c.loop-row.row-index _ c.loop-row.standings.items c.index_mut.result.now c.take.new.standing c.deref-in-loop-row.result.now c.loop-row.next c.take.new.next _ _ _ _ _ _
-          c.loop-row.invariant.judges c.loop-row-test.true c.index_mut.ensures.value labels _ time c.in_ok-take.ensures.standing c.in_ok-take.ensures.next c.in_ok-take.ensures.verdict c.in_ok-take.ensures.series c.in_ok-take.ensures.samples c.in_ok-take.ensures.named;
+          c.loop-row.row-index _ c.loop-row.standings.items c.index_mut.result.now c.judge_row.new.standing c.deref-in-loop-row.result.now c.loop-row.next c.judge_row.new.next _ _ _ _ _ _
+          c.loop-row.invariant.judges c.loop-row-test.true c.index_mut.ensures.value labels _ time c.in_ok-judge_row.ensures.standing c.in_ok-judge_row.ensures.next c.in_ok-judge_row.ensures.verdict c.in_ok-judge_row.ensures.series c.in_ok-judge_row.ensures.samples c.in_ok-judge_row.ensures.named;
     }
 
 pub returns-clause-batch : goal.returns-clause-batch

@@ -35,8 +35,8 @@ returns-in-Some-find-clause-stale c = λ h _.
     let found : place (same_labels row.labels.value) content.table.series ≡ Some slot =
     ap (λ l. place (same_labels l) content.table.series) (sym c.deref-in-Stale.ensures) ∙ (sym c.find-in-Stale.ensures.slot ∙ c.in-Some-find.is) in
     let time : to_z w64 (of_z w64 row.time) ≡ row.time = search (rules, to_z-of_z) in
-    let reached : reaches (latest (history_at content slot).samples) row.time ≡ c.is_reached.result =
-    ap (reaches (latest (history_at content slot).samples)) (sym time) ∙ (ap (λ o. reaches o (to_z w64 (of_z w64 row.time))) (sym c.last_time.ensures) ∙ sym c.is_reached.ensures) in
+    let reached : reaches (latest (history_at content slot).samples) row.time ≡ c.reaches.result =
+    ap (reaches (latest (history_at content slot).samples)) (sym time) ∙ (ap (λ o. reaches o (to_z w64 (of_z w64 row.time))) (sym c.last_time.ensures) ∙ sym c.reaches.ensures) in
     found_reached content row.labels.value slot row.time true found (reached ∙ h)
 
 pub returns-in-Some-find-clause-impossible : goal.returns-in-Some-find-clause-impossible
@@ -47,6 +47,6 @@ returns-in-Some-find-clause-impossible c = λ no.
     let found : place (same_labels row.labels.value) content.table.series ≡ Some slot =
     ap (λ l. place (same_labels l) content.table.series) (sym c.deref-in-Stale.ensures) ∙ (sym c.find-in-Stale.ensures.slot ∙ c.in-Some-find.is) in
     let time : to_z w64 (of_z w64 row.time) ≡ row.time = search (rules, to_z-of_z) in
-    let reached : reaches (latest (history_at content slot).samples) row.time ≡ c.is_reached.result =
-    ap (reaches (latest (history_at content slot).samples)) (sym time) ∙ (ap (λ o. reaches o (to_z w64 (of_z w64 row.time))) (sym c.last_time.ensures) ∙ sym c.is_reached.ensures) in
+    let reached : reaches (latest (history_at content slot).samples) row.time ≡ c.reaches.result =
+    ap (reaches (latest (history_at content slot).samples)) (sym time) ∙ (ap (λ o. reaches o (to_z w64 (of_z w64 row.time))) (sym c.last_time.ensures) ∙ sym c.reaches.ensures) in
     not_reached content (answer_of row) slot found c.in-Stale.is (reached ∙ no)

@@ -5,7 +5,7 @@ use Rattle.inspect_command.specs.Remarks.{AreInOrder}
 use Rattle.inspect_command.proofs.Told.{all_contained, all_hold, all_in_order, told_list}
 use Rattle.inspect_command.proofs.remarks.remarks_on.Goals as goal
 
--- the list that was told is that of all remarks
+-- the list that was reported is that of all remarks
 pub returns-clause-told : goal.returns-clause-told
 returns-clause-told c =
     let i = c.args.inspection.now in

@@ -1,5 +1,4 @@
-use Rattle.std.proofs.Common.{rules, ◌≡◌, ◌∙◌, ◌++◌, Err, List, sym, subst}
-use Rattle.head_resolver.specs.declared.fault.HeadFault.TheVariants as head
+use Rattle.std.proofs.Common.{◌≡◌, ◌∙◌, ◌++◌, List, sym, subst}
 use Rattle.head_column.specs.declared.items.Outcome.{Outcome}
 use Rattle.head_core.specs.Applied.{AreCountsOfOutcomes}
 use Rattle.replay_rounds.proofs.rounds.end_deal.Goals as goal
@@ -8,8 +7,7 @@ pub returns-in_err-count_outcomes-clause-full : goal.returns-in_err-count_outcom
 returns-in_err-count_outcomes-clause-full g c = λ e before more all h k w.
     let ended = c.in_ok-parts.ensures.ended in
     let ends = c.in-Ok.ensures.endings c.args.deal ended.deal ended.shares in
-    let full : c.count_outcomes.result ≡ Err head.Full = search rules in
-    c.count_outcomes.ensures.full full before more all h (subst (λ (os : List Outcome). AreCountsOfOutcomes ((before ++ os) ++ more) all) (sym (c.deref.ensures.value ∙ ends.1)) k) w
+    c.in_err-count_outcomes.ensures.full before more all h (subst (λ (os : List Outcome). AreCountsOfOutcomes ((before ++ os) ++ more) all) (sym (c.deref.ensures.value ∙ ends.1)) k) w
 
 pub returns-clause-values : goal.returns-clause-values
 returns-clause-values g c = (c.in-Ok.ensures.endings c.args.deal c.in_ok-parts.ensures.ended.deal c.in_ok-parts.ensures.ended.shares).0

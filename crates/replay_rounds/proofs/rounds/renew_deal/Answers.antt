@@ -1,8 +1,7 @@
-use Rattle.std.proofs.Common.{rules, ◌≡◌, ◌∙◌, ◌++◌, Err, List, sym, ap, subst}
+use Rattle.std.proofs.Common.{◌≡◌, ◌∙◌, ◌++◌, List, sym, ap, subst}
 use Rattle.std.specs.List.{flat_map}
 use Rattle.head_deal.specs.Dealing.{course, ending_outcomes}
 use Rattle.head_deal.specs.Endings.{outcomes}
-use Rattle.head_resolver.specs.declared.fault.HeadFault.TheVariants as head
 use Rattle.head_column.specs.declared.items.Outcome.{Outcome}
 use Rattle.head_core.specs.Applied.{AreCountsOfOutcomes}
 use Rattle.replay_rounds.proofs.Counted.{Alike, alike_back, alike_before, alike_behind, counts_alike}
@@ -17,9 +16,8 @@ returns-in_err-count_parts-clause-full g c = λ e before more all h k w.
     let told : List Outcome = flat_map (λ p. outcomes p.jobs) parts in
     let endings : List Outcome = ending_outcomes g.B.Builder.after g.B.Builder.outcome (course g.B.Builder.value c.args.deal) in
     let alike : Alike told endings = λ test. c.outcomes_in_parts.ensures c.args.deal parts test c.in_ok-parts.ensures.ended in
-    let full : c.count_parts.result ≡ Err head.Full = search rules in
     let in_parts = counts_alike ((before ++ endings) ++ more) ((before ++ told) ++ more) all (alike_before (before ++ endings) (before ++ told) more (alike_behind before endings told (alike_back told endings alike))) k in
-    c.count_parts.ensures.full full before more all h (subst (λ ps. AreCountsOfOutcomes ((before ++ flat_map (λ p. outcomes p.jobs) ps) ++ more) all) (sym c.deref.ensures.value) in_parts) w
+    c.in_err-count_parts.ensures.full before more all h (subst (λ ps. AreCountsOfOutcomes ((before ++ flat_map (λ p. outcomes p.jobs) ps) ++ more) all) (sym c.deref.ensures.value) in_parts) w
 
 pub returns-clause-new : goal.returns-clause-new
 returns-clause-new g c =

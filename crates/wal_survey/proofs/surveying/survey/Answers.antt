@@ -1,11 +1,11 @@
 use Rattle.std.proofs.Common.{[]}
-use Rattle.wal_survey.specs.Taking.{Begun}
+use Rattle.wal_survey.specs.Taking.{SurveyStart}
 use Rattle.wal_survey.proofs.Taken.{as_survey, none_taken}
 use Rattle.wal_survey.proofs.surveying.survey.Goals as goal
 
 pub returns : goal.returns
 returns c =
-    let start : Begun = record { in_checkpoint = c.args.in_checkpoint; number = c.args.file.now.number; references = c.args.references } in
+    let start : SurveyStart = record { in_checkpoint = c.args.in_checkpoint; number = c.args.file.now.number; references = c.args.references } in
     let took = c.in_ok-salvage.ensures start [] (none_taken start c.new.result c.new.ensures) in
     rw c.finish.ensures (
       took.1.placed,

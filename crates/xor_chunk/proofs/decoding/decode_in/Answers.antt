@@ -14,19 +14,19 @@ returns-in_default-clause-bad c = λ other all fit h.
 pub returns-clause-found : goal.returns-clause-found
 returns-clause-found c =
     let same = unpacked_more c.args.bytes.now c.split_at.result.1.now c.from.result c.in-Some.ensures.found.within (c.from.ensures ∙ c.in-Some.ensures.value) c.split_at.ensures.back in
-    found_by c.take_first.result _ _ _ same c.take_first.ensures.found
+    found_by c.read_first.result _ _ _ same c.read_first.ensures.found
 
 pub returns-clause-fault : goal.returns-clause-fault
 returns-clause-fault c =
     let same = unpacked_more c.args.bytes.now c.split_at.result.1.now c.from.result c.in-Some.ensures.found.within (c.from.ensures ∙ c.in-Some.ensures.value) c.split_at.ensures.back in
-    fault_by c.take_first.result _ _ same c.take_first.ensures.fault
+    fault_by c.read_first.result _ _ same c.read_first.ensures.fault
 
 pub returns-clause-only : goal.returns-clause-only
 returns-clause-only c = λ all fit h.
     let same = unpacked_more c.args.bytes.now c.split_at.result.1.now c.from.result c.in-Some.ensures.found.within (c.from.ensures ∙ c.in-Some.ensures.value) c.split_at.ensures.back in
-    only_ok c.take_first.result c.args.bytes.now c.take_first.new.samples.items all fit h (found_by c.take_first.result _ _ _ same c.take_first.ensures.found)
+    only_ok c.read_first.result c.args.bytes.now c.read_first.new.samples.items all fit h (found_by c.read_first.result _ _ _ same c.read_first.ensures.found)
 
 pub returns-clause-bad : goal.returns-clause-bad
 returns-clause-bad c =
     let same = unpacked_more c.args.bytes.now c.split_at.result.1.now c.from.result c.in-Some.ensures.found.within (c.from.ensures ∙ c.in-Some.ensures.value) c.split_at.ensures.back in
-    bad_err c.take_first.result c.args.bytes.now (fault_by c.take_first.result _ _ same c.take_first.ensures.fault)
+    bad_err c.read_first.result c.args.bytes.now (fault_by c.read_first.result _ _ same c.read_first.ensures.fault)

@@ -2,7 +2,7 @@ use Rattle.std.proofs.Common.{arith, rules, ◌≡◌, ◌<◌, ◌++◌, ◌%�
 use Rattle.xor_chunk.specs.Bits.{bits_of}
 use Rattle.xor_chunk.specs.Chunks.{opened, opening, within, reused, width}
 use Rattle.xor_chunk.specs.Private.{Holds}
-use Rattle.xor_chunk.specs.declared.before.Window.{Window}
+use Rattle.xor_chunk.specs.declared.before.BitWindow.{BitWindow}
 use Rattle.xor_chunk.proofs.Steps.{value_0, value_new, value_again}
 use Rattle.xor_chunk.proofs.Windows.{opened_holds, opened_leading, reused_holds}
 use Rattle.xor_chunk.proofs.encoding.put_value.Goals as goal
@@ -17,50 +17,50 @@ pub returns-then-xor-eq0-clause-whole : goal.returns-then-xor-eq0-clause-whole
 returns-then-xor-eq0-clause-whole c = (value_0 c.args.window c.args.xor c.if-xor-eq0.true).2
 
 pub put_opening-requires-clause-leading : goal.put_opening-requires-clause-leading
-put_opening-requires-clause-leading c = subst (λ (w : Window). w.leading < 32) (sym c.opened_window-fresh.ensures) (opened_leading c.args.xor)
+put_opening-requires-clause-leading c = subst (λ (w : BitWindow). w.leading < 32) (sym c.opened_window-fresh.ensures) (opened_leading c.args.xor)
 
 pub put_opening-requires-clause-some : goal.put_opening-requires-clause-some
 put_opening-requires-clause-some c =
     let some : 0 < c.args.xor = search rules in
     let fits : c.args.xor < 2 ^ 64 = omega arith in
-    let held = subst (λ (w : Window). Holds w c.args.xor) (sym c.opened_window-fresh.ensures) (opened_holds c.args.xor some fits) in
+    let held = subst (λ (w : BitWindow). Holds w c.args.xor) (sym c.opened_window-fresh.ensures) (opened_holds c.args.xor some fits) in
     held.within
 
 pub put_within-requires : goal.put_within-requires
 put_within-requires c =
     let some : 0 < c.args.xor = search rules in
     let fits : c.args.xor < 2 ^ 64 = omega arith in
-    record { fits = subst (λ (w : Window). Holds w c.args.xor) (sym c.opened_window-fresh.ensures) (opened_holds c.args.xor some fits) }
+    record { fits = subst (λ (w : BitWindow). Holds w c.args.xor) (sym c.opened_window-fresh.ensures) (opened_holds c.args.xor some fits) }
 
 pub width-requires : goal.width-requires
 width-requires c =
     let some : 0 < c.args.xor = search rules in
     let fits : c.args.xor < 2 ^ 64 = omega arith in
-    let held = subst (λ (w : Window). Holds w c.args.xor) (sym c.opened_window-fresh.ensures) (opened_holds c.args.xor some fits) in
+    let held = subst (λ (w : BitWindow). Holds w c.args.xor) (sym c.opened_window-fresh.ensures) (opened_holds c.args.xor some fits) in
     omega (arith, held.within)
 
 pub returns-in_default-clause-put : goal.returns-in_default-clause-put
 returns-in_default-clause-put c =
     let ne : c.args.xor ≡ 0 → ⊥ = search rules in
-    let w : Window = c.opened_window-fresh.result in
+    let w : BitWindow = c.opened_window-fresh.result in
     let is : w ≡ opened c.args.xor = c.opened_window-fresh.ensures in
     let none : reused c.args.window (opened c.args.xor) ≡ None = ap (reused c.args.window) (sym is) ∙ sym c.in_default.ensures in
     c.in_ok-put_within.ensures ∙ ap (λ (bs : List Bool). bs ++ within w c.args.xor) c.in_ok-put_opening.ensures ∙ append_assoc c.args.bits.now (opening w) (within w c.args.xor)
-    ∙ ap (λ (v : Window). c.args.bits.now ++ (opening v ++ within v c.args.xor)) is ∙ ap (λ (bs : List Bool). c.args.bits.now ++ bs) (value_new c.args.window c.args.xor ne none).0
+    ∙ ap (λ (v : BitWindow). c.args.bits.now ++ (opening v ++ within v c.args.xor)) is ∙ ap (λ (bs : List Bool). c.args.bits.now ++ bs) (value_new c.args.window c.args.xor ne none).0
 
 pub returns-in_default-clause-after : goal.returns-in_default-clause-after
 returns-in_default-clause-after c =
     let ne : c.args.xor ≡ 0 → ⊥ = search rules in
     let is = c.opened_window-fresh.ensures in
     let none : reused c.args.window (opened c.args.xor) ≡ None = ap (reused c.args.window) (sym is) ∙ sym c.in_default.ensures in
-    ap (λ (v : Window). Some v) is ∙ (value_new c.args.window c.args.xor ne none).1
+    ap (λ (v : BitWindow). Some v) is ∙ (value_new c.args.window c.args.xor ne none).1
 
 pub returns-in_default-clause-whole : goal.returns-in_default-clause-whole
 returns-in_default-clause-whole c =
     let ne : c.args.xor ≡ 0 → ⊥ = search rules in
     let is = c.opened_window-fresh.ensures in
     let none : reused c.args.window (opened c.args.xor) ≡ None = ap (reused c.args.window) (sym is) ∙ sym c.in_default.ensures in
-    ap (λ (k : ℕ). eqb (k % 8) 0) (c.width.ensures ∙ ap (λ (v : Window). width v) is) ∙ (value_new c.args.window c.args.xor ne none).2
+    ap (λ (k : ℕ). eqb (k % 8) 0) (c.width.ensures ∙ ap (λ (v : BitWindow). width v) is) ∙ (value_new c.args.window c.args.xor ne none).2
 
 pub put_within-requires-2 : goal.put_within-requires-2
 put_within-requires-2 c =
@@ -80,7 +80,7 @@ width-requires-2 c =
 pub returns-clause-put : goal.returns-clause-put
 returns-clause-put c =
     let ne : c.args.xor ≡ 0 → ⊥ = search rules in
-    let w : Window = c.in-Some.open in
+    let w : BitWindow = c.in-Some.open in
     let again : reused c.args.window (opened c.args.xor) ≡ Some w = ap (reused c.args.window) (sym c.opened_window-fresh.ensures) ∙ sym c.in-Some.ensures in
     c.in_ok-put_within-2.ensures ∙ ap (λ (bs : List Bool). bs ++ within w c.args.xor) c.in_ok-push-2.ensures ∙ append_assoc c.args.bits.now (bits_of 2 2) (within w c.args.xor)
     ∙ ap (λ (bs : List Bool). c.args.bits.now ++ bs) (value_again c.args.window c.args.xor w ne again).0

@@ -3,7 +3,7 @@ use Rattle.std.proofs.lemmas.List.{length-append, length-map}
 use Rattle.head_deal.specs.Dealing.{strided}
 use Rattle.head_deal.specs.Batches.{flat, shifted}
 use Rattle.head_deal.specs.Entries.{entries}
-use Rattle.head_deal.specs.declared.batches.Batch.{Batch}
+use Rattle.head_deal.specs.declared.batches.ItemBatch.{ItemBatch}
 use Rattle.head_deal.proofs.Entries.{length-strided}
 use Rattle.head_deal.proofs.Flat.{flat-push, entries-append, all-append, all-shifted}
 use Rattle.head_deal.proofs.parts.Part.queue.Goals as goal
@@ -12,7 +12,7 @@ pub invariant_of-self-2 : goal.invariant_of-self-2
 invariant_of-self-2 g c =
     let s = c.self.inside in
     let i = c.self.invariant in
-    let b : Batch _ = record { base = c.args.base; dues = c.args.dues } in
+    let b : ItemBatch _ = record { base = c.args.base; dues = c.args.dues } in
     let e : flat (s.batches.items ++ b ∷ []) ≡ flat s.batches.items ++ map (shifted c.args.base) c.args.dues.items = flat-push s.batches.items b in
     let n = length-append (flat s.batches.items) (map (shifted c.args.base) c.args.dues.items) in
     let m = length-map c.args.dues.items (shifted c.args.base) in
@@ -28,6 +28,6 @@ pub returns : goal.returns
 returns g c =
     let s = c.self.inside in
     let i = c.self.invariant in
-    let b : Batch _ = record { base = c.args.base; dues = c.args.dues } in
+    let b : ItemBatch _ = record { base = c.args.base; dues = c.args.dues } in
     let e : flat (s.batches.items ++ b ∷ []) ≡ flat s.batches.items ++ map (shifted c.args.base) c.args.dues.items = flat-push s.batches.items b in
     rw (← c.self.view_is, c.in_ok-push.ensures.items) (ap (λ x. record { tag = s.tag; workers = s.workers; worker = s.worker; all_slots = s.all_slots; all_jobs = s.all_jobs; slots = strided s.worker s.workers s.builders.items; jobs = x }) (ap (λ x. entries s.worker s.workers x s.outcomes.items) e ∙ entries-append s.worker s.workers (flat s.batches.items) (map (shifted c.args.base) c.args.dues.items) s.outcomes.items i.2))

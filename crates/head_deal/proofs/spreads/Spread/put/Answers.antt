@@ -13,7 +13,7 @@ invariant_of-self g c =
     let same : seats.workers.number ≡ s.workers = rw (← c.seats.view_is, ← c.self.view_is) at c.requires.alike in
     let low : c.args.slot < length seats.seats.now = rw (← c.seats.view_is) at c.requires.exists in
     let put = put-in old s.count c.args.slot c.args.item seats.workers.number seats.seats.now none s.lists.items c.index_mut-list.result.now c.push.new.self same c.seats.invariant low c.index_mut-list.ensures.value c.in-Ok.ensures.items c.self.invariant.0 in
-    let room = c.if-self-ge4294967296.false in
+    let room = c.if-self-ge-MOST_ITEMS.false in
     (spread_view _ _ _ put, omega arith)
 
 pub invariant_of-self-in-Err : goal.invariant_of-self-in-Err

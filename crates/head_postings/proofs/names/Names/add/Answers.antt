@@ -5,7 +5,7 @@ use Rattle.head_postings.proofs.names.Names.add.Goals as goal
 
 pub returns-in-Err-clause-err : goal.returns-in-Err-clause-err
 returns-in-Err-clause-err c n v =
-    c.take_back.ensures c.args.slot n v (slots_of c.args.self.now.slots n v) (c.in-Err.ensures.err n v ∙ c.loop-i.invariant n v)
+    c.pop_each.ensures c.args.slot n v (slots_of c.args.self.now.slots n v) (c.in-Err.ensures.err n v ∙ c.loop-i.invariant n v)
 
 pub loop-i-preserved : goal.loop-i-preserved
 loop-i-preserved c n v =

@@ -1,10 +1,10 @@
 use Rattle.std.proofs.Common.{◌<◌, arith}
-use Rattle.head_resolver.specs.declared.changes.Note.{Note}
+use Rattle.head_resolver.specs.declared.changes.ChangeEntry.{ChangeEntry}
 use Rattle.head_resolver.specs.Changes.{Change}
 use Rattle.head_resolver.proofs.Linking.{of_test, shown_at}
 use Rattle.head_resolver.proofs.changes.Changes.is_at.Goals as goal
 
-change_of : Note → Change
+change_of : ChangeEntry → Change
 change_of n = record { reference = n.reference; place = n.place; before = n.before }
 
 pub returns-in-Some : goal.returns-in-Some

@@ -1,11 +1,11 @@
 use Rattle.std.proofs.Common.{◌≡◌, subst, ap, arith}
-use Rattle.head_resolver.specs.declared.changes.Note.{Note}
+use Rattle.head_resolver.specs.declared.changes.ChangeEntry.{ChangeEntry}
 use Rattle.head_resolver.specs.Changes.{Change}
 use Rattle.head_resolver.specs.Links.{AreInOrder}
 use Rattle.head_resolver.proofs.Linking.{last_shown, of_test, order_more}
 use Rattle.head_resolver.proofs.changes.Changes.is_last.Goals as goal
 
-change_of : Note → Change
+change_of : ChangeEntry → Change
 change_of n = record { reference = n.reference; place = n.place; before = n.before }
 
 pub returns-in-Some : goal.returns-in-Some

@@ -1,12 +1,12 @@
 use Rattle.std.proofs.Common.{◌≡◌, ◌-◌, suc, arith, subst, sym}
 use Rattle.std.proofs.lemmas.Option.{IfSome_then}
 use Rattle.head_series.specs.Table.{slot_at}
-use Rattle.head_resolver.specs.declared.changes.Note.{Note}
+use Rattle.head_resolver.specs.declared.changes.ChangeEntry.{ChangeEntry}
 use Rattle.head_resolver.specs.Changes.{Change}
 use Rattle.head_resolver.proofs.Linking.{IsWalk, at_or_behind, below_at, in_front, last_falls, note_jumped, note_linked, note_order, note_shown, note_within, walk_done, walk_first, walk_jump, walk_more, walk_stop, walk_within}
 use Rattle.head_resolver.proofs.changes.Changes.slot_before.Goals as goal
 
-change_of : Note → Change
+change_of : ChangeEntry → Change
 change_of n = record { reference = n.reference; place = n.place; before = n.before }
 
 pub loop-next-init : goal.loop-next-init
@@ -29,7 +29,7 @@ unfolding change_of
 loop-next-smaller-then-note-place c =
     let e : c.loop-next.next ≡ suc (c.loop-next.next - 1) = omega (arith, c.loop-next-test.true) in
     let w = walk_within c.args.self.now (slot_at c.args.table.now) c.args.place c.args.reference c.loop-next.next (c.loop-next.next - 1) c.loop-next.found c.loop-next.invariant.0 e in
-    let linked = note_linked change_of (λ (n : Note). n.previous) (λ (n : Note). n.jump) c.self.inside.notes.items c.args.self.now c.self.inside.lasts.entries c.self.inside.in_order c.self.view_is c.self.invariant (c.loop-next.next - 1) c.index-note.result.now w c.index-note.ensures in
+    let linked = note_linked change_of (λ (n : ChangeEntry). n.previous) (λ (n : ChangeEntry). n.jump) c.self.inside.notes.items c.args.self.now c.self.inside.lasts.entries c.self.inside.in_order c.self.view_is c.self.invariant (c.loop-next.next - 1) c.index-note.result.now w c.index-note.ensures in
     let falls = last_falls (c.loop-next.next - 1) c.args.self.now c.index-note.result.now.reference in
     omega (arith, linked, falls, e)
 
@@ -38,7 +38,7 @@ unfolding change_of
 loop-next-smaller c =
     let e : c.loop-next.next ≡ suc (c.loop-next.next - 1) = omega (arith, c.loop-next-test.true) in
     let w = walk_within c.args.self.now (slot_at c.args.table.now) c.args.place c.args.reference c.loop-next.next (c.loop-next.next - 1) c.loop-next.found c.loop-next.invariant.0 e in
-    let linked = note_linked change_of (λ (n : Note). n.previous) (λ (n : Note). n.jump) c.self.inside.notes.items c.args.self.now c.self.inside.lasts.entries c.self.inside.in_order c.self.view_is c.self.invariant (c.loop-next.next - 1) c.index-note.result.now w c.index-note.ensures in
+    let linked = note_linked change_of (λ (n : ChangeEntry). n.previous) (λ (n : ChangeEntry). n.jump) c.self.inside.notes.items c.args.self.now c.self.inside.lasts.entries c.self.inside.in_order c.self.view_is c.self.invariant (c.loop-next.next - 1) c.index-note.result.now w c.index-note.ensures in
     let falls = last_falls (c.loop-next.next - 1) c.args.self.now c.index-note.result.now.reference in
     omega (arith, linked, falls, e)
 
@@ -50,7 +50,7 @@ loop-next-smaller-then-is_at c =
     let found = c.is_at.ensures c.if-is_at.true in
     let on = found.1 in
     let there : c.index-note.result.now.jump ≡ suc (c.index-note.result.now.jump - 1) = omega (arith, on) in
-    let to = note_jumped change_of (λ (n : Note). n.previous) (λ (n : Note). n.jump) c.self.inside.notes.items c.args.self.now c.self.inside.lasts.entries c.self.inside.in_order c.self.view_is c.self.invariant (c.loop-next.next - 1) c.index-note.result.now w c.index-note.ensures (c.index-note.result.now.jump - 1) there in
+    let to = note_jumped change_of (λ (n : ChangeEntry). n.previous) (λ (n : ChangeEntry). n.jump) c.self.inside.notes.items c.args.self.now c.self.inside.lasts.entries c.self.inside.in_order c.self.view_is c.self.invariant (c.loop-next.next - 1) c.index-note.result.now w c.index-note.ensures (c.index-note.result.now.jump - 1) there in
     let low = to.0 in
     omega (arith, low, there, e)
 
@@ -59,8 +59,8 @@ unfolding change_of
 loop-next-preserved-then-note-place c =
     let e : c.loop-next.next ≡ suc (c.loop-next.next - 1) = omega (arith, c.loop-next-test.true) in
     let w = walk_within c.args.self.now (slot_at c.args.table.now) c.args.place c.args.reference c.loop-next.next (c.loop-next.next - 1) c.loop-next.found c.loop-next.invariant.0 e in
-    let shown = note_shown change_of (λ (n : Note). n.previous) (λ (n : Note). n.jump) c.self.inside.notes.items c.args.self.now c.self.inside.lasts.entries c.self.inside.in_order c.self.view_is c.self.invariant (c.loop-next.next - 1) c.index-note.result.now w c.index-note.ensures in
-    let linked = note_linked change_of (λ (n : Note). n.previous) (λ (n : Note). n.jump) c.self.inside.notes.items c.args.self.now c.self.inside.lasts.entries c.self.inside.in_order c.self.view_is c.self.invariant (c.loop-next.next - 1) c.index-note.result.now w c.index-note.ensures in (
+    let shown = note_shown change_of (λ (n : ChangeEntry). n.previous) (λ (n : ChangeEntry). n.jump) c.self.inside.notes.items c.args.self.now c.self.inside.lasts.entries c.self.inside.in_order c.self.view_is c.self.invariant (c.loop-next.next - 1) c.index-note.result.now w c.index-note.ensures in
+    let linked = note_linked change_of (λ (n : ChangeEntry). n.previous) (λ (n : ChangeEntry). n.jump) c.self.inside.notes.items c.args.self.now c.self.inside.lasts.entries c.self.inside.in_order c.self.view_is c.self.invariant (c.loop-next.next - 1) c.index-note.result.now w c.index-note.ensures in (
       walk_more c.args.self.now (slot_at c.args.table.now) c.args.place c.args.reference c.loop-next.next (c.loop-next.next - 1) c.loop-next.found (change_of c.index-note.result.now) c.index-note.result.now.previous c.loop-next.found c.loop-next.invariant.0 e shown
           linked (in_front c.args.place c.index-note.result.now.place c.index-note.result.now.before c.loop-next.found c.if-note-place.true),
       c.loop-next.invariant.1,
@@ -71,8 +71,8 @@ unfolding change_of
 loop-next-preserved c =
     let e : c.loop-next.next ≡ suc (c.loop-next.next - 1) = omega (arith, c.loop-next-test.true) in
     let w = walk_within c.args.self.now (slot_at c.args.table.now) c.args.place c.args.reference c.loop-next.next (c.loop-next.next - 1) c.loop-next.found c.loop-next.invariant.0 e in
-    let shown = note_shown change_of (λ (n : Note). n.previous) (λ (n : Note). n.jump) c.self.inside.notes.items c.args.self.now c.self.inside.lasts.entries c.self.inside.in_order c.self.view_is c.self.invariant (c.loop-next.next - 1) c.index-note.result.now w c.index-note.ensures in
-    let linked = note_linked change_of (λ (n : Note). n.previous) (λ (n : Note). n.jump) c.self.inside.notes.items c.args.self.now c.self.inside.lasts.entries c.self.inside.in_order c.self.view_is c.self.invariant (c.loop-next.next - 1) c.index-note.result.now w c.index-note.ensures in (
+    let shown = note_shown change_of (λ (n : ChangeEntry). n.previous) (λ (n : ChangeEntry). n.jump) c.self.inside.notes.items c.args.self.now c.self.inside.lasts.entries c.self.inside.in_order c.self.view_is c.self.invariant (c.loop-next.next - 1) c.index-note.result.now w c.index-note.ensures in
+    let linked = note_linked change_of (λ (n : ChangeEntry). n.previous) (λ (n : ChangeEntry). n.jump) c.self.inside.notes.items c.args.self.now c.self.inside.lasts.entries c.self.inside.in_order c.self.view_is c.self.invariant (c.loop-next.next - 1) c.index-note.result.now w c.index-note.ensures in (
       walk_more c.args.self.now (slot_at c.args.table.now) c.args.place c.args.reference c.loop-next.next (c.loop-next.next - 1) c.loop-next.found (change_of c.index-note.result.now) c.index-note.result.now.previous c.index-note.result.now.before c.loop-next.invariant.0 e shown
           linked (at_or_behind c.args.place c.index-note.result.now.place c.index-note.result.now.before c.loop-next.found c.if-note-place.false),
       λ n few below. below_at n c.args.self.now (c.loop-next.next - 1) (change_of c.index-note.result.now) below shown,
@@ -86,7 +86,7 @@ loop-next-preserved-then-is_at c =
     let found = c.is_at.ensures c.if-is_at.true in
     let on = found.1 in
     let there : c.index-note.result.now.jump ≡ suc (c.index-note.result.now.jump - 1) = omega (arith, on) in
-    let to = note_jumped change_of (λ (n : Note). n.previous) (λ (n : Note). n.jump) c.self.inside.notes.items c.args.self.now c.self.inside.lasts.entries c.self.inside.in_order c.self.view_is c.self.invariant (c.loop-next.next - 1) c.index-note.result.now w c.index-note.ensures (c.index-note.result.now.jump - 1) there in (
+    let to = note_jumped change_of (λ (n : ChangeEntry). n.previous) (λ (n : ChangeEntry). n.jump) c.self.inside.notes.items c.args.self.now c.self.inside.lasts.entries c.self.inside.in_order c.self.view_is c.self.invariant (c.loop-next.next - 1) c.index-note.result.now w c.index-note.ensures (c.index-note.result.now.jump - 1) there in (
       subst (λ n. IsWalk c.args.self.now (slot_at c.args.table.now) c.args.place c.args.reference n c.loop-next.found) (sym there)
           (walk_jump c.args.self.now (slot_at c.args.table.now) c.args.place c.args.reference c.loop-next.next (c.loop-next.next - 1) (c.index-note.result.now.jump - 1) c.loop-next.found c.loop-next.found found.0 c.loop-next.invariant.0 e to.0 to.1 found.2 found.3),
       c.loop-next.invariant.1,
@@ -97,8 +97,8 @@ unfolding change_of
 returns-then-self-clause-slot c =
     let e : c.loop-next.next ≡ suc (c.loop-next.next - 1) = omega (arith, c.loop-next-test.true) in
     let w = walk_within c.args.self.now (slot_at c.args.table.now) c.args.place c.args.reference c.loop-next.next (c.loop-next.next - 1) c.loop-next.found c.loop-next.invariant.0 e in
-    let shown = note_shown change_of (λ (n : Note). n.previous) (λ (n : Note). n.jump) c.self.inside.notes.items c.args.self.now c.self.inside.lasts.entries c.self.inside.in_order c.self.view_is c.self.invariant (c.loop-next.next - 1) c.index-note.result.now w c.index-note.ensures in
-    walk_stop c.args.self.now (slot_at c.args.table.now) c.args.place c.args.reference c.loop-next.next (c.loop-next.next - 1) c.loop-next.found (change_of c.index-note.result.now) c.loop-next.invariant.0 e shown c.if-note-place.true (note_order change_of (λ (n : Note). n.previous) (λ (n : Note). n.jump) c.self.inside.notes.items c.args.self.now c.self.inside.lasts.entries c.self.inside.in_order c.self.view_is c.self.invariant (c.loop-next.next - 1) c.index-note.result.now w c.index-note.ensures c.if-self.true)
+    let shown = note_shown change_of (λ (n : ChangeEntry). n.previous) (λ (n : ChangeEntry). n.jump) c.self.inside.notes.items c.args.self.now c.self.inside.lasts.entries c.self.inside.in_order c.self.view_is c.self.invariant (c.loop-next.next - 1) c.index-note.result.now w c.index-note.ensures in
+    walk_stop c.args.self.now (slot_at c.args.table.now) c.args.place c.args.reference c.loop-next.next (c.loop-next.next - 1) c.loop-next.found (change_of c.index-note.result.now) c.loop-next.invariant.0 e shown c.if-note-place.true (note_order change_of (λ (n : ChangeEntry). n.previous) (λ (n : ChangeEntry). n.jump) c.self.inside.notes.items c.args.self.now c.self.inside.lasts.entries c.self.inside.in_order c.self.view_is c.self.invariant (c.loop-next.next - 1) c.index-note.result.now w c.index-note.ensures c.if-self.true)
 
 pub returns-clause-slot : goal.returns-clause-slot
 returns-clause-slot c = walk_done c.args.self.now (slot_at c.args.table.now) c.args.place c.args.reference c.loop-next.next c.loop-next.found c.loop-next.invariant.0 c.loop-next-test.false

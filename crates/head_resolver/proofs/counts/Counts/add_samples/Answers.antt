@@ -1,7 +1,7 @@
 use Rattle.std.proofs.Common.{rules, ◌≡◌, ◌+◌, ◌<◌, ◌⊎◌, ◌∷◌, [], inr, ap, subst, ◌∙◌}
 use Rattle.std.specs.Prelude.{count_by}
 use Rattle.std.proofs.lemmas.Int.{to_z-of_z}
-use Rattle.std.proofs.lemmas.Result.{on_ok_weaker}
+use Rattle.std.proofs.lemmas.Result.{on_err_weaker, on_ok_weaker}
 use Rattle.wal_record.specs.declared.record.WalRecord.{WalRecord}
 use Rattle.wal_record.specs.declared.record.WalRecord.TheVariants.{Samples}
 use Rattle.wal_record.specs.Entries.{sample}
@@ -28,11 +28,13 @@ returns-clause-more c =
     c.add_expired.ensures.more
 
 pub returns-clause-over : goal.returns-clause-over
-returns-clause-over c = λ e.
+returns-clause-over c =
     let m = c.args.min_valid in
     let r : WalRecord = Samples c.args.samples.now in
     let d = c.args.self.now in
     let counted : c.count_expired.result ≡ count_by (λ s. is_expired m (sample s)) c.args.samples.now = search (rules, to_z-of_z) in
     let samples : c.count_expired.result ≡ expired_samples m (r ∷ []) = counted ∙ samples_expired m c.args.samples.now in
-    inr (subst (λ n. (count_limit < d.expired_samples + expired_samples m (r ∷ [])) ⊎ (count_limit < d.expired_stones + n)) (no_stones_in_samples m c.args.samples.now)
-    (subst (λ n. (count_limit < d.expired_samples + n) ⊎ (count_limit < d.expired_stones + 0)) samples (c.add_expired.ensures.full e)))
+    on_err_weaker c.add_expired.result
+    (λ over. inr (subst (λ n. (count_limit < d.expired_samples + expired_samples m (r ∷ [])) ⊎ (count_limit < d.expired_stones + n)) (no_stones_in_samples m c.args.samples.now)
+    (subst (λ n. (count_limit < d.expired_samples + n) ⊎ (count_limit < d.expired_stones + 0)) samples over)))
+    c.add_expired.ensures.full

@@ -7,18 +7,18 @@ use Rattle.head_resolver.proofs.CountRoom.{all_classes, all_expired, all_fates}
 use Rattle.head_resolver.proofs.counts.Counts.check_room.Goals as goal
 
 pub returns-in_default-clause-full : goal.returns-in_default-clause-full
-returns-in_default-clause-full c = λ e counts expired classes.
+returns-in_default-clause-full c = λ counts expired classes.
     let few = counts bound in
     let over = c.count_entries.ensures.none c.in_default.is in
     omega (arith, few, over)
 
 pub returns-then-not-all_fit-clause-full : goal.returns-then-not-all_fit-clause-full
-returns-then-not-all_fit-clause-full c = λ e counts expired classes.
+returns-then-not-all_fit-clause-full c = λ counts expired classes.
     let fit : IsTrue false = c.if-not-all_fit.ensures.fit.1 (all_classes c.args.self.now c.args.records.now classes) in
     cc
 
 pub returns-then-not-all_fit-2-clause-full : goal.returns-then-not-all_fit-2-clause-full
-returns-then-not-all_fit-2-clause-full c = λ e counts expired classes.
+returns-then-not-all_fit-2-clause-full c = λ counts expired classes.
     let t = c.args.self.now in
     let fit : IsTrue false = c.if-not-all_fit-2.ensures.fit.1
     (subst (λ n. All (λ count. count + n ≤ count_limit) (t.series_entries ∷ t.accepted ∷ t.stale ∷ t.unknown ∷ t.hiding ∷ t.empty_stones ∷ t.unknown_stones ∷ []))
@@ -26,7 +26,7 @@ returns-then-not-all_fit-2-clause-full c = λ e counts expired classes.
     cc
 
 pub returns-then-not-all_fit-3-clause-full : goal.returns-then-not-all_fit-3-clause-full
-returns-then-not-all_fit-3-clause-full c = λ e counts expired classes.
+returns-then-not-all_fit-3-clause-full c = λ counts expired classes.
     let t = c.args.self.now in
     let fit : IsTrue false = c.if-not-all_fit-3.ensures.fit.1
     (subst (λ n. All (λ count. count + n ≤ count_limit) (t.expired_samples ∷ t.expired_stones ∷ [])) (sym c.in-Some.ensures.some) (all_expired t (entries_of c.args.records.now) expired)) in

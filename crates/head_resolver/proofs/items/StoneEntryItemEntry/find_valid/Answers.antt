@@ -2,7 +2,7 @@ use Rattle.std.proofs.Common.{◌≡◌, ◌∙◌, ◌∷◌, [], true, false, 
 use Rattle.std.specs.Prelude.{int_lt}
 use Rattle.std.specs.Option.{option_to_list}
 use Rattle.std.proofs.lemmas.Int.{to_z-of_z}
-use Rattle.std.proofs.lemmas.Result.{IfOk-weaker}
+use Rattle.std.proofs.lemmas.Result.{IfOk-weaker, on_err_weaker}
 use Rattle.wal_record.specs.Entries.{stone}
 use Rattle.wal_record.specs.Validity.{raised, valid_entry}
 use Rattle.head_resolver.specs.Resolving.{IsResolving, Resolves}
@@ -26,7 +26,9 @@ returns-clause-step c =
     c.find.ensures.step
 
 pub returns-clause-full : goal.returns-clause-full
-returns-clause-full c = λ full.
+returns-clause-full c =
     let e : int_lt c.args.self.now.max_time c.args.resolver.now.min_valid ≡ false = search (rules, to_z-of_z) in
     let r : c.raised.result ≡ raised c.args.resolver.now.min_valid c.args.self.now = search (rules, to_z-of_z) in
-    stopped_one c.args.resolver.now (valid_entry c.args.resolver.now.min_valid (stone c.args.self.now)) (stone c.raised.result) (stone_valid c.args.resolver.now.min_valid c.args.self.now e ∙ ap (λ x. stone x ∷ []) (sym r)) (c.find.ensures.full full)
+    on_err_weaker c.find.result
+    (stopped_one c.args.resolver.now (valid_entry c.args.resolver.now.min_valid (stone c.args.self.now)) (stone c.raised.result) (stone_valid c.args.resolver.now.min_valid c.args.self.now e ∙ ap (λ x. stone x ∷ []) (sym r)))
+    c.find.ensures.full

@@ -1,10 +1,9 @@
-use Rattle.std.proofs.Common.{rules, arith, ◌≡◌, ◌≤◌, ◌+◌, ℕ, ℤ, List, [], Err, length, take, length-append, refl, ap, sym, subst, ◌∙◌}
+use Rattle.std.proofs.Common.{rules, arith, ◌≡◌, ◌≤◌, ◌+◌, ℕ, ℤ, List, [], length, take, length-append, refl, ap, sym, subst, ◌∙◌}
 use Rattle.std.specs.Prelude.{map}
 use Rattle.std.specs.List.{flat_map}
 use Rattle.std.specs.Option.{option_to_list}
 use Rattle.wal_record.specs.Validity.{valid_entry}
 use Rattle.head_column.specs.declared.items.Item.{Item}
-use Rattle.head_resolver.specs.declared.fault.HeadFault.TheVariants.{Full}
 use Rattle.head_resolver.specs.Resolving.{Resolves, none, IsStoppedIn}
 use Rattle.head_resolver.proofs.Resolving.{one_at_most, resolves_time}
 use Rattle.head_resolver.proofs.ResolvingValid.{valid_at, valid_stopped_at}
@@ -22,10 +21,9 @@ loop-entry-init g c =
 
 pub returns-in_err-found-clause-full : goal.returns-in_err-found-clause-full
 returns-in_err-found-clause-full g c = λ e.
-    let full : c.find_valid.result ≡ Err Full = search rules in
     let same = resolves_time c.loop-entry.invariant.0 in
     valid_stopped_at c.args.self.now.min_valid g.E.ItemEntry.entry c.args.entries.now c.loop-entry.entry-index c.entry-item.result c.loop-entry-test.true c.entry-item.is c.loop-entry.invariant.0
-    (subst (λ (z : ℤ). IsStoppedIn c.loop-entry.self (valid_entry z (g.E.ItemEntry.entry c.entry-item.result))) same (c.find_valid.ensures.full full))
+    (subst (λ (z : ℤ). IsStoppedIn c.loop-entry.self (valid_entry z (g.E.ItemEntry.entry c.entry-item.result))) same c.in_err-found.ensures.full)
 
 pub loop-entry-preserved : goal.loop-entry-preserved
 loop-entry-preserved g c =

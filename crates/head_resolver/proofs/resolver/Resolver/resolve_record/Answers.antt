@@ -1,9 +1,8 @@
-use Rattle.std.proofs.Common.{rules, ◌≡◌, ◌++◌, Err}
+use Rattle.std.proofs.Common.{◌≡◌, ◌++◌}
 use Rattle.std.specs.List.{flat_map}
 use Rattle.std.proofs.lemmas.Result.{IfOk-weaker}
 use Rattle.wal_record.specs.Entries.{entries_in, entries_of}
 use Rattle.wal_record.specs.Validity.{valid_entry}
-use Rattle.head_resolver.specs.declared.fault.HeadFault.TheVariants.{Full}
 use Rattle.head_resolver.specs.Taken.{taken_after}
 use Rattle.head_resolver.specs.Resolved.{IsResolved, resolved}
 use Rattle.head_resolver.specs.Resolving.{Resolves}
@@ -32,9 +31,7 @@ returns-clause-items c = λ t h.
     c.find_entries.ensures.step
 
 pub returns-in_err-count_record-clause-full : goal.returns-in_err-count_record-clause-full
-returns-in_err-count_record-clause-full c = λ e t h.
-    let full : c.count_record.result ≡ Err Full = search rules in
-    record_stopped h c.args.log_record.now (c.count_record.ensures.full full)
+returns-in_err-count_record-clause-full c = λ e t h. record_stopped h c.args.log_record.now c.in_err-count_record.ensures.full
 
 pub returns-clause-full : goal.returns-clause-full
 returns-clause-full c = λ e t h w. record_unread h c.args.log_record.now c.count_record.new.self c.in_ok-count_record.ensures.more (c.find_entries.ensures.full e) w

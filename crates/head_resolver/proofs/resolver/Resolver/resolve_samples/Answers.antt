@@ -1,11 +1,10 @@
-use Rattle.std.proofs.Common.{rules, ◌≡◌, ◌++◌, Err}
+use Rattle.std.proofs.Common.{◌≡◌, ◌++◌}
 use Rattle.std.specs.List.{flat_map}
 use Rattle.std.proofs.lemmas.Result.{IfOk-weaker}
 use Rattle.wal_record.specs.declared.record.WalRecord.{WalRecord}
 use Rattle.wal_record.specs.declared.record.WalRecord.TheVariants.{Samples}
 use Rattle.wal_record.specs.Entries.{entries_in, entries_of}
 use Rattle.wal_record.specs.Validity.{valid_entry}
-use Rattle.head_resolver.specs.declared.fault.HeadFault.TheVariants.{Full}
 use Rattle.head_resolver.specs.Taken.{taken_after}
 use Rattle.head_resolver.specs.Resolved.{IsResolved, resolved}
 use Rattle.head_resolver.specs.Resolving.{Resolves}
@@ -34,9 +33,7 @@ returns-clause-items c = λ t h.
     c.find_all.ensures.step
 
 pub returns-in_err-count_samples-clause-full : goal.returns-in_err-count_samples-clause-full
-returns-in_err-count_samples-clause-full c = λ e t h.
-    let full : c.count_samples.result ≡ Err Full = search rules in
-    record_stopped h (Samples c.args.samples.now) (c.count_samples.ensures.full full)
+returns-in_err-count_samples-clause-full c = λ e t h. record_stopped h (Samples c.args.samples.now) c.in_err-count_samples.ensures.full
 
 pub returns-clause-full : goal.returns-clause-full
 returns-clause-full c = λ e t h w. record_unread h (Samples c.args.samples.now) c.count_samples.new.self c.in_ok-count_samples.ensures.more (c.find_all.ensures.full e) w

@@ -1,10 +1,9 @@
-use Rattle.std.proofs.Common.{rules, ◌≡◌, ◌+◌, Err, ap, refl, sym, subst, length, ◌∙◌}
+use Rattle.std.proofs.Common.{◌≡◌, ◌+◌, ap, refl, sym, subst, length, ◌∙◌}
 use Rattle.std.specs.List.{flat_map, fold}
 use Rattle.wal_record.specs.Entries.{entries_in}
 use Rattle.wal_record.specs.Validity.{valid_entry}
 use Rattle.head_series.specs.Table.{slot_at}
 use Rattle.head_resolver.specs.declared.counts.Counts.{Counts}
-use Rattle.head_resolver.specs.declared.fault.HeadFault.TheVariants.{Full}
 use Rattle.head_resolver.specs.Limits.{AreCountsWithin}
 use Rattle.head_resolver.specs.Steps.{with_expired, with_record}
 use Rattle.head_resolver.specs.Changes.{slot_before}
@@ -14,11 +13,10 @@ use Rattle.head_resolver.proofs.resolver.Resolver.spread_at.Goals as goal
 
 pub returns-in_err-count_in-clause-full : goal.returns-in_err-count_in-clause-full
 returns-in_err-count_in-clause-full c = λ e t front before rs back h s at w.
-    let full : c.count_in.result ≡ Err Full = search rules in
     let m = c.args.self.now.min_valid in
     let r = c.args.log_record.now in
     let slots = slot_before c.args.changes.now (slot_at c.args.self.now.table) in
-    c.count_in.ensures.full full
+    c.in_err-count_in.ensures.full
     (within_before (slots c.args.place) (flat_map (valid_entry m) (entries_in r)) (with_expired m r (with_record r c.args.counts.now))
     (added_within t front before rs back r c.args.changes.now c.args.self.now c.args.spread.now.items c.args.counts.now (length front + length before) c.args.place h refl at s w))
 

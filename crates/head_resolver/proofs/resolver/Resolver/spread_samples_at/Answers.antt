@@ -1,4 +1,4 @@
-use Rattle.std.proofs.Common.{rules, ◌≡◌, ◌+◌, ℤ, Err, of_z, to_z, w64, ap, refl, sym, subst, length, ◌∙◌}
+use Rattle.std.proofs.Common.{rules, ◌≡◌, ◌+◌, ℤ, of_z, to_z, w64, ap, refl, sym, subst, length, ◌∙◌}
 use Rattle.std.specs.List.{flat_map, fold}
 use Rattle.wal_record.specs.declared.record.WalRecord.{WalRecord}
 use Rattle.wal_record.specs.declared.record.WalRecord.TheVariants.{Samples}
@@ -6,7 +6,6 @@ use Rattle.wal_record.specs.Entries.{entries_in}
 use Rattle.wal_record.specs.Validity.{valid_entry}
 use Rattle.head_series.specs.Table.{slot_at}
 use Rattle.head_resolver.specs.declared.counts.Counts.{Counts}
-use Rattle.head_resolver.specs.declared.fault.HeadFault.TheVariants.{Full}
 use Rattle.head_resolver.specs.Limits.{AreCountsWithin}
 use Rattle.head_resolver.specs.Steps.{with_expired, with_record}
 use Rattle.head_resolver.specs.Changes.{slot_before}
@@ -16,12 +15,11 @@ use Rattle.head_resolver.proofs.resolver.Resolver.spread_samples_at.Goals as goa
 
 pub returns-in_err-add_samples-clause-full : goal.returns-in_err-add_samples-clause-full
 returns-in_err-add_samples-clause-full c = λ e t front before rs back h s at w.
-    let full : c.add_samples.result ≡ Err Full = search rules in
     let m = c.args.self.now.min_valid in
     let r : WalRecord = Samples c.args.samples.now in
     let slots = slot_before c.args.changes.now (slot_at c.args.self.now.table) in
     let time : to_z w64 (of_z w64 c.min_valid.result) ≡ m = search rules in
-    c.add_samples.ensures.full full
+    c.in_err-add_samples.ensures.full
     (subst (λ (z : ℤ). AreCountsWithin (with_expired z r (with_record r c.args.counts.now))) (sym time)
     (within_before (slots c.args.place) (flat_map (valid_entry m) (entries_in r)) (with_expired m r (with_record r c.args.counts.now))
     (added_within t front before rs back r c.args.changes.now c.args.self.now c.args.spread.now.items c.args.counts.now (length front + length before) c.args.place h refl at s w)))

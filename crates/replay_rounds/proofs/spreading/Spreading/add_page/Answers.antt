@@ -8,7 +8,7 @@ use Rattle.replay_rounds.specs.Shares.{slots_of}
 use Rattle.replay_rounds.proofs.Pages.{parts_behind}
 use Rattle.replay_rounds.proofs.spreading.Spreading.add_page.Goals as goal
 
--- the place behind more records
+-- the place after more records
 more_at : (rs : List WalRecord) (more : List Placed) (first place behind : ℕ) → place ≡ first + length rs → behind ≡ place + length more → behind ≡ first + length (rs ++ contents more)
 more_at rs more first place behind at next = omega (arith, at, next, length-append rs (contents more), length-map more (λ (p : Placed). p.content))
 

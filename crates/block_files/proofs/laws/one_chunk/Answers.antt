@@ -1,5 +1,0 @@
-use Rattle.block_files.proofs.Elements.{one_stands}
-use Rattle.block_files.proofs.laws.one_chunk.Goals as goal
-
-pub returns : goal.returns
-returns c = one_stands
