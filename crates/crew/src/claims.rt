@@ -1,4 +1,4 @@
-//! ClaimRule numbers, each once.
+//! Drawing numbers, each once.
 
 ghost use Rattle.std.specs.Prelude.{◌≡◌, ℕ, ◌+◌, ◌^◌, ◌<◌, ◌≤◌, ◌≢◌, List, [], ◌∷◌, ◌++◌, max, IfOk, IfSome, IfNone, None};
 ghost use Rattle.crew.specs.Tickets.{Closes, HasNoRepeat, IsAt, Tickets, pass_of, times};
