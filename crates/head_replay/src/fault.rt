@@ -75,3 +75,94 @@ impl From<AllocError> for ReplayFault {
         ReplayFault::Memory
     }
 }
+
+/// An error of applying a log that a source gives.
+#[derive(Debug, Drop)]
+pub(crate) enum LogFault<F> {
+    /// The source refused a part that was needed.
+    Source(F),
+    /// The records could not be applied.
+    Round(RoundFault),
+}
+
+impl<F> From<RoundFault> for LogFault<F> {
+    ghost use Rattle.std.specs.Prelude.{◌≡◌};
+    ghost use Rattle.head_replay.specs.declared.fault.LogFault.TheVariants.{Round};
+
+    ghost from_gives = { λ f e. e ≡ Round f };
+
+    fn from(fault: RoundFault) -> LogFault<F> {
+        LogFault::Round(fault)
+    }
+}
+
+impl<F> From<AllocError> for LogFault<F> {
+    ghost use Rattle.std.specs.Prelude.{◌≡◌};
+    ghost use Rattle.head_replay.specs.declared.fault.LogFault.TheVariants.{Round};
+    ghost use Rattle.replay_rounds.specs.declared.fault.RoundFault.TheVariants.{Memory};
+
+    ghost from_gives = { λ _ e. e ≡ Round Memory };
+
+    fn from(_error: AllocError) -> LogFault<F> {
+        LogFault::Round(RoundFault::Memory)
+    }
+}
+
+/// An error of a replay of a log that a source gives.
+#[derive(Debug, Drop)]
+pub enum SourceFault<F> {
+    /// The source refused a part that was needed.
+    Source(F),
+    /// The replay failed.
+    Replay(ReplayFault),
+}
+
+impl<F: Drop> From<LogFault<F>> for SourceFault<F> {
+    ghost use Rattle.std.specs.Prelude.{◌≡◌};
+    ghost use Rattle.head_replay.specs.Faults.{source_fault};
+
+    ghost from_gives = { λ f e. e ≡ source_fault f };
+
+    fn from(fault: LogFault<F>) -> SourceFault<F> {
+        match fault {
+            LogFault::Source(refused) => SourceFault::Source(refused),
+            LogFault::Round(fault) => SourceFault::Replay(ReplayFault::from(fault)),
+        }
+    }
+}
+
+impl<F> From<CrewFault> for SourceFault<F> {
+    ghost use Rattle.std.specs.Prelude.{◌≡◌};
+    ghost use Rattle.replay_rounds.specs.Faults.{crew_fault};
+    ghost use Rattle.head_replay.specs.Faults.{replay_fault};
+    ghost use Rattle.head_replay.specs.declared.fault.SourceFault.TheVariants.{Replay};
+
+    ghost from_gives = { λ f e. e ≡ Replay (replay_fault (crew_fault f)) };
+
+    fn from(fault: CrewFault) -> SourceFault<F> {
+        SourceFault::Replay(ReplayFault::from(fault))
+    }
+}
+
+impl<F> From<AllocError> for SourceFault<F> {
+    ghost use Rattle.std.specs.Prelude.{◌≡◌};
+    ghost use Rattle.head_replay.specs.declared.fault.ReplayFault.TheVariants.{Memory};
+    ghost use Rattle.head_replay.specs.declared.fault.SourceFault.TheVariants.{Replay};
+
+    ghost from_gives = { λ _ e. e ≡ Replay Memory };
+
+    fn from(_error: AllocError) -> SourceFault<F> {
+        SourceFault::Replay(ReplayFault::Memory)
+    }
+}
+
+impl<F> From<ReplayFault> for SourceFault<F> {
+    ghost use Rattle.std.specs.Prelude.{◌≡◌};
+    ghost use Rattle.head_replay.specs.declared.fault.SourceFault.TheVariants.{Replay};
+
+    ghost from_gives = { λ f e. e ≡ Replay f };
+
+    fn from(fault: ReplayFault) -> SourceFault<F> {
+        SourceFault::Replay(fault)
+    }
+}

@@ -93,6 +93,8 @@ mod shared;
 #[cfg(test)]
 mod shared_series;
 #[cfg(test)]
+mod sources;
+#[cfg(test)]
 mod starts;
 #[cfg(test)]
 mod tickets;
