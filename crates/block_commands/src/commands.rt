@@ -13,15 +13,18 @@ use progress::Progress;
 use std::alloc::Global;
 use std::sync::Wait;
 use std::thread::Threads;
-use store::Store;
+use store::PartStore;
 
-fn execute<R: Threads + Wait + Sync, S: Store, P: Progress + Sync>(
+fn execute<R: Threads + Wait + Sync, S: PartStore + Sync, P: Progress + Sync>(
     rt: &R,
     alloc: Global,
     store: &mut S,
     progress: &P,
     request: BlockRequest<'_>,
 ) -> Result<Answer, Fault>
+where
+    S::Reader: Send,
+    S::Writer: Send,
     ensures crash { CarriesOut S.did S.holds store.old request.entry (IsOk result) store.new }
     ensures printed { MatchResult result (Prints (view_of (S.holds store.old)) request.entry) (Refuses request.entry) }
 {
@@ -36,13 +39,16 @@ fn execute<R: Threads + Wait + Sync, S: Store, P: Progress + Sync>(
 
 /// Carries out a request about blocks. A crash at any moment leaves the block whole or what was before, and after status `Done` it is
 /// whole. A block is made with one thread for each processor of `rt`.
-pub fn carry_out_block<R: Threads + Wait + Sync, S: Store, P: Progress + Sync>(
+pub fn carry_out_block<R: Threads + Wait + Sync, S: PartStore + Sync, P: Progress + Sync>(
     rt: &R,
     alloc: Global,
     store: &mut S,
     progress: &P,
     request: BlockRequest<'_>,
 ) -> Answer
+where
+    S::Reader: Send,
+    S::Writer: Send,
     ensures crash { CarriesOut S.did S.holds store.old request.entry (result.status ≡ Status.Done) store.new }
     ensures printed { Prints (view_of (S.holds store.old)) request.entry result }
 {

@@ -17,7 +17,7 @@ use progress::Progress;
 use std::alloc::Global;
 use std::sync::Wait;
 use std::thread::Threads;
-use store::Store;
+use store::PartStore;
 
 // Prints the full hours of a replayed log, one a line.
 fn listed(alloc: Global, replayed: &ReplayedLog) -> Result<Answer, Fault>
@@ -32,7 +32,7 @@ fn listed(alloc: Global, replayed: &ReplayedLog) -> Result<Answer, Fault>
 }
 
 /// Prints the full hours of the log in a directory, in this form, up to its damage if it is damaged.
-pub fn ranges<R: Threads + Wait + Sync, S: Store, P: Progress + Sync>(
+pub fn ranges<R: Threads + Wait + Sync, S: PartStore + Sync, P: Progress + Sync>(
     rt: &R,
     alloc: Global,
     store: &S,
@@ -41,6 +41,9 @@ pub fn ranges<R: Threads + Wait + Sync, S: Store, P: Progress + Sync>(
     form: LogForm,
     options: &Options,
 ) -> Result<Answer, Fault>
+where
+    S::Reader: Send,
+    S::Writer: Send,
     ensures { MatchResult result (TellsUpTo (IsRangesText form (view_of (S.holds store.now)) dir.now options.now.min_valid)) TellsNoDamage }
 {
     let replayed = replay_in(rt, alloc, store, progress, dir, form, options)?;

@@ -67,8 +67,8 @@ fn assert_calls<R: Abort + Threads + Wait + Sync + AllocGlobal>(
     Ok(())
 }
 
-// Each call fails, the first being 1, and then none. No call is made after one that failed.
-fn assert_each<R: Abort + Threads + Wait + Sync + AllocGlobal>(
+/// Each call fails, the first being 1, and then none. No call is made after one that failed.
+pub fn assert_each<R: Abort + Threads + Wait + Sync + AllocGlobal>(
     rt: &R,
     case: &Case,
     calls: &[(&'static str, &str)],
@@ -85,8 +85,8 @@ fn assert_each<R: Abort + Threads + Wait + Sync + AllocGlobal>(
     assert_calls(rt, case, past, done, all)
 }
 
-// The last two segments are damaged.
-const RECORDS: Case = Case {
+/// The last two segments are damaged.
+pub const RECORDS: Case = Case {
     standing: &[
         ("log/", b""),
         ("log/00000005", RECORD_OF_NO_BYTES),
@@ -102,7 +102,7 @@ const RECORDS: Case = Case {
     dir: "log/checkpoint.00000004",
 };
 
-const IN_CHECKPOINT: &str = " 00000000";
+pub const IN_CHECKPOINT: &str = " 00000000";
 
 const READS_OF_LOG: &[(&str, &str)] = &[
     ("cannot read log", IN_CHECKPOINT),
@@ -207,11 +207,15 @@ const BESIDE: &str = " 01ARZ3NDEKTSV4RRFFQ69G5FAV.tmp";
 
 const THERE: &str = " 01ARZ3NDEKTSV4RRFFQ69G5FAV";
 
-// The log is read; the directory is listed, two are made, each file is made, written and synced, then the two directories are synced, the
+// The log is listed, each of its files is opened, and then opened again and read; the directory is listed, two are made, each file is made, written and synced, then the two directories are synced, the
 // last one is renamed, and the directory that it is in is synced. The block's folder is whole or not there.
 const CALLS_OF_CUT: &[(&str, &str)] = &[
     ("cannot read log", ""),
     ("cannot read log/00000000", ""),
+    ("cannot read log/00000001", ""),
+    ("cannot read log/00000000", ""),
+    ("cannot read log/00000000", ""),
+    ("cannot read log/00000001", ""),
     ("cannot read log/00000001", ""),
     (NOT_BEGUN, ""),
     (NOT_BEGUN, ""),

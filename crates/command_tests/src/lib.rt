@@ -31,6 +31,8 @@ mod noted_call;
 mod options;
 mod outlasts;
 #[cfg(test)]
+mod reading;
+#[cfg(test)]
 mod runs;
 #[cfg(test)]
 mod shelf;
@@ -42,6 +44,6 @@ mod stores;
 mod tree;
 
 pub use listed::Listed;
-pub use listing::{Listing, ListingWriter};
+pub use listing::{Listing, ListingReader, ListingWriter};
 pub use noted_call::NotedCall;
 pub use outlasts::{Outcome, append, cut, make_checkpoint, unpack};

@@ -1,6 +1,6 @@
 //! A store that is a list of files and directories, and notes the calls that change it.
 
-ghost use Rattle.std.specs.Prelude.{◌≡◌, ◌∷◌, ◌++◌, [], ℕ, List, IfOk, IsOk, bytes_eq, map, string_bytes};
+ghost use Rattle.std.specs.Prelude.{◌≡◌, ◌∷◌, ◌++◌, ◌<◌, ◌≤◌, [], ℕ, List, IfOk, IsOk, OnOk, bytes_eq, length, map, string_bytes};
 ghost use Rattle.std.specs.List.{list_any};
 ghost use Rattle.std.specs.Path.{with_separator};
 ghost use Rattle.store.specs.Calls.{Called};
@@ -12,7 +12,7 @@ use crate::listed::{Listed, found, name_in, with_bytes, with_new, with_renamed, 
 use crate::noted_call::NotedCall;
 use std::alloc::{AllocError, Global};
 use std::io::ErrorKind;
-use store::{Reason, Store, StoreFault};
+use store::{PartStore, Reason, Store, StoreFault};
 
 // A call is refused.
 const REFUSED: StoreFault = StoreFault::Refused(Reason::Other(ErrorKind::Other));
@@ -21,6 +21,13 @@ const REFUSED: StoreFault = StoreFault::Refused(Reason::Other(ErrorKind::Other))
 #[derive(Drop)]
 pub struct ListingWriter {
     path: String,
+}
+
+/// A file that is open for reading: its path, and the bytes that were read of it.
+#[derive(Drop)]
+pub struct ListingReader {
+    path: String,
+    given: Vec<u8>,
 }
 
 /// A list of files and directories, and the calls that were made of it and change it. What changes files or directories is done to the list,
@@ -172,6 +179,32 @@ fn create(store: &mut Listing, path: &str, is_dir: bool) -> Result<(), StoreFaul
     put(store, call, files, false)
 }
 
+// Reads the next bytes of a file that has these. Returns an error if what was read before is not their beginning.
+fn read_on(
+    alloc: Global,
+    file: &[u8],
+    reader: &mut ListingReader,
+    most: u64,
+    bytes: &mut Vec<u8>,
+) -> Result<(), StoreFault>
+    ensures few { OnOk result (length bytes.new.items ≤ most) }
+    ensures path { reader.new.path ≡ reader.old.path }
+    ensures next { OnOk result (reader.new.given.items ≡ reader.old.given.items ++ bytes.new.items) }
+    ensures end { OnOk result (length bytes.new.items < most → file.now ≡ reader.old.given.items ++ bytes.new.items) }
+{
+    if reader.given.len() > file.len() {
+        return Err(REFUSED);
+    }
+    let (before, left) = file.split_at(reader.given.len());
+    if before != reader.given.as_slice() {
+        return Err(REFUSED);
+    }
+    let (next, _) = left.split_at(left.len().min(most as usize));
+    *bytes = copied(alloc, next)?;
+    reader.given.extend_from_slice(next)?;
+    Ok(())
+}
+
 impl Store for Listing {
     ghost use Rattle.std.specs.Prelude.{map, string_bytes};
     ghost use Rattle.command_tests.specs.Listings.{Did, HoldsAt, did_both_on, did_nothing_on, file_of, standing_in};
@@ -249,5 +282,42 @@ impl Store for Listing {
         let call = NotedCall::Remove(text_of(self.alloc, path)?);
         let files = without(self.alloc, &self.files, path)?;
         put(self, call, files, self.is_renamed)
+    }
+}
+
+impl PartStore for Listing {
+    ghost use Rattle.std.specs.Prelude.{◌≡◌, string_bytes};
+
+    type Reader = ListingReader;
+
+    ghost has_read = { λ reader path bytes. (string_bytes reader.path ≡ path) × (reader.given.items ≡ bytes) };
+
+    fn open(&self, path: &str) -> Result<ListingReader, StoreFault> {
+        if !is_file(&self.files, path) {
+            return Err(REFUSED);
+        }
+        Ok(ListingReader {
+            path: text_of(self.alloc, path)?,
+            given: Vec::new(self.alloc),
+        })
+    }
+
+    fn expected_length(&self, reader: &ListingReader) -> u64 {
+        match found(&self.files, &reader.path) {
+            Some(file) => file.bytes.len() as u64,
+            None => 0,
+        }
+    }
+
+    fn read_next(
+        &self,
+        reader: &mut ListingReader,
+        most: u64,
+        bytes: &mut Vec<u8>,
+    ) -> Result<(), StoreFault> {
+        match found(&self.files, &reader.path) {
+            Some(file) if !file.is_dir => read_on(self.alloc, &file.bytes, reader, most, bytes),
+            _ => Err(REFUSED),
+        }
     }
 }

@@ -5,13 +5,13 @@ ghost use Rattle.std.specs.Prelude.{◌≡◌, ◌∷◌, ◌++◌, [], IfOk, On
 use crate::checks::same;
 use crate::noted_call::NotedCall;
 use crate::runs::{APPEND, CHECKPOINT, CUT, Case, carried_out, shelf_of};
-use crate::shelf::{Shelf, ShelfWriter};
+use crate::shelf::{Shelf, ShelfReader, ShelfWriter};
 use head_replay::NoGate;
 use std::alloc::Global;
 use std::process::Abort;
 use std::sync::Wait;
 use std::thread::Threads;
-use store::{Store, StoreFault};
+use store::{PartStore, Store, StoreFault};
 
 /// A writer, with the path of its file.
 #[derive(Drop)]
@@ -114,6 +114,29 @@ impl Store for Noted {
     fn remove_file(&mut self, path: &str) -> Result<(), StoreFault> {
         note(&mut self.calls, NotedCall::Remove(text(self.alloc, path)?))?;
         self.shelf.remove_file(path)
+    }
+}
+
+impl PartStore for Noted {
+    type Reader = ShelfReader;
+
+    ghost has_read = { λ _ _ _. ⊤ };
+
+    fn open(&self, path: &str) -> Result<ShelfReader, StoreFault> {
+        self.shelf.open(path)
+    }
+
+    fn expected_length(&self, reader: &ShelfReader) -> u64 {
+        self.shelf.expected_length(reader)
+    }
+
+    fn read_next(
+        &self,
+        reader: &mut ShelfReader,
+        most: u64,
+        bytes: &mut Vec<u8>,
+    ) -> Result<(), StoreFault> {
+        self.shelf.read_next(reader, most, bytes)
     }
 }
 

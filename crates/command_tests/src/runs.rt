@@ -3,7 +3,7 @@
 use crate::checks::ULID;
 use crate::fragments::*;
 use crate::shelf::Shelf;
-use answers::{AnalyzeRequest, Answer, DumpRequest, Encoding, LogForm, UnpackRequest};
+use answers::{AnalyzeRequest, Answer, DumpRequest, Encoding, LogForm, Request, UnpackRequest};
 use block_commands::{BlockRequest, CutRequest, carry_out_block};
 use command_line::Asked;
 use head_replay::Options;
@@ -15,7 +15,7 @@ use rescue_commands::{carry_out_blocks, carry_out_rescue};
 use std::alloc::{AllocError, Global};
 use std::sync::Wait;
 use std::thread::Threads;
-use store::{Store, StoreFault};
+use store::{PartStore, StoreFault};
 use unpack_command::carry_out_unpack;
 use write_commands::{AppendRequest, CheckpointRequest, carry_out_append, carry_out_checkpoint};
 
@@ -83,6 +83,9 @@ pub fn replayed_by(asked: Asked<'_>, options: Options) -> Asked<'_> {
         Asked::OfBlocks(BlockRequest::Cut(request)) => {
             Asked::OfBlocks(BlockRequest::Cut(CutRequest { options, ..request }))
         }
+        Asked::OfLog(Request::Replay { dir, form, .. }) => {
+            Asked::OfLog(Request::Replay { dir, form, options })
+        }
         Asked::Append(request) => Asked::Append(AppendRequest { options, ..request }),
         Asked::Analyze(request) => Asked::Analyze(AnalyzeRequest { options, ..request }),
         Asked::Dump(request) => Asked::Dump(DumpRequest { options, ..request }),
@@ -91,12 +94,16 @@ pub fn replayed_by(asked: Asked<'_>, options: Options) -> Asked<'_> {
 }
 
 /// Carries out what is asked for.
-pub fn carried_out<R: Threads + Wait + Sync + AllocGlobal, S: Store, P: Progress + Sync>(
+pub fn carried_out<R: Threads + Wait + Sync + AllocGlobal, S: PartStore + Sync, P: Progress + Sync>(
     rt: &R,
     store: &mut S,
     progress: &P,
     asked: Asked<'_>,
-) -> Answer {
+) -> Answer
+where
+    S::Reader: Send,
+    S::Writer: Send,
+{
     let alloc = rt.alloc();
     match asked {
         Asked::OfLog(request) => carry_out_log_request(rt, alloc, store, progress, request),

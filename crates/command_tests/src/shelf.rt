@@ -5,8 +5,8 @@ ghost use Rattle.std.specs.Prelude.{⊤};
 use crate::checks::UNSAID;
 use crate::tree::{Kept, Tree};
 use std::alloc::Global;
-use std::cell::{RefCell, RefMut};
-use store::{Store, StoreFault};
+use std::sync::{Mutex, MutexGuard};
+use store::{PartStore, Store, StoreFault};
 
 // Which call fails, by its number, and how.
 #[derive(Clone, Copy)]
@@ -87,20 +87,20 @@ impl Contents {
     }
 }
 
-fn open(contents: &RefCell<Contents>) -> Result<RefMut<'_, Contents>, StoreFault> {
-    contents.try_borrow_mut().map_err(|_| UNSAID)
+fn lock(contents: &Mutex<Contents>) -> Result<MutexGuard<'_, Contents>, StoreFault> {
+    contents.try_lock().ok_or(UNSAID)
 }
 
-// Opens the contents for a call, which is counted.
-fn call(contents: &RefCell<Contents>) -> Result<RefMut<'_, Contents>, StoreFault> {
-    let mut contents = open(contents)?;
+// Locks the contents for a call, which is counted.
+fn call(contents: &Mutex<Contents>) -> Result<MutexGuard<'_, Contents>, StoreFault> {
+    let mut contents = lock(contents)?;
     contents.count_call()?;
     Ok(contents)
 }
 
 /// Directories and files in memory. Each call of the store is counted.
 pub struct Shelf {
-    contents: RefCell<Contents>,
+    contents: Mutex<Contents>,
 }
 
 // Written out, so that a function which holds a shelf is proved with one call where it lets go of it.
@@ -120,23 +120,23 @@ impl Shelf {
             meanwhile: None,
         };
         Ok(Shelf {
-            contents: RefCell::new(contents),
+            contents: Mutex::new(contents),
         })
     }
 
     /// Puts a directory there and syncs it, with no call counted.
     pub fn put_dir(&mut self, path: &str) -> Result<(), StoreFault> {
-        put_dir(&mut open(&self.contents)?.tree, path)
+        put_dir(&mut lock(&self.contents)?.tree, path)
     }
 
     /// Puts a file there and syncs it, with no call counted.
     pub fn put(&mut self, path: &str, bytes: &[u8]) -> Result<(), StoreFault> {
-        put_file(&mut open(&self.contents)?.tree, path, bytes)
+        put_file(&mut lock(&self.contents)?.tree, path, bytes)
     }
 
     /// Has the call of this number fail, 1 being the first.
     pub fn fail(&mut self, call: u64, fault: StoreFault) -> Result<(), StoreFault> {
-        open(&self.contents)?.failure = Some(Failure {
+        lock(&self.contents)?.failure = Some(Failure {
             call,
             fault,
             lasts: false,
@@ -146,7 +146,7 @@ impl Shelf {
 
     /// Has the call of this number fail, and each after it.
     pub fn stop(&mut self, call: u64) -> Result<(), StoreFault> {
-        open(&self.contents)?.failure = Some(Failure {
+        lock(&self.contents)?.failure = Some(Failure {
             call,
             fault: UNSAID,
             lasts: true,
@@ -156,13 +156,13 @@ impl Shelf {
 
     /// Has another program do this just before the call of this number.
     pub fn meanwhile(&mut self, call: u64, acts: &'static [Act]) -> Result<(), StoreFault> {
-        open(&self.contents)?.meanwhile = Some(Meanwhile { call, acts });
+        lock(&self.contents)?.meanwhile = Some(Meanwhile { call, acts });
         Ok(())
     }
 
     /// Drops what was not synced but for so much of it, of names and of bytes. No call fails from here on.
     pub fn crash(&mut self, names: Kept, bytes: Kept) -> Result<(), StoreFault> {
-        let mut contents = open(&self.contents)?;
+        let mut contents = lock(&self.contents)?;
         contents.failure = None;
         contents.tree.crash(names, bytes)?;
         Ok(())
@@ -170,7 +170,7 @@ impl Shelf {
 
     /// How many calls there were.
     pub fn calls(&self) -> Result<u64, StoreFault> {
-        Ok(open(&self.contents)?.calls)
+        Ok(lock(&self.contents)?.calls)
     }
 }
 
@@ -180,10 +180,17 @@ pub struct ShelfWriter {
     file: usize,
 }
 
+/// A file of a shelf that is open for reading: its bytes when it was opened, and how many of them were read.
+#[derive(Drop)]
+pub struct ShelfReader {
+    bytes: Vec<u8>,
+    read: usize,
+}
+
 impl Store for Shelf {
     type Writer = ShelfWriter;
 
-    // what it holds is in a cell
+    // what it holds is behind a lock
     ghost did = { λ _ _ _. ⊤ };
 
     ghost is_of = { λ _ _. ⊤ };
@@ -229,5 +236,35 @@ impl Store for Shelf {
 
     fn remove_file(&mut self, path: &str) -> Result<(), StoreFault> {
         call(&self.contents)?.tree.remove_file(path)
+    }
+}
+
+impl PartStore for Shelf {
+    type Reader = ShelfReader;
+
+    ghost has_read = { λ _ _ _. ⊤ };
+
+    fn open(&self, path: &str) -> Result<ShelfReader, StoreFault> {
+        let bytes = call(&self.contents)?.tree.read(path)?;
+        Ok(ShelfReader { bytes, read: 0 })
+    }
+
+    fn expected_length(&self, reader: &ShelfReader) -> u64 {
+        reader.bytes.len() as u64
+    }
+
+    fn read_next(
+        &self,
+        reader: &mut ShelfReader,
+        most: u64,
+        bytes: &mut Vec<u8>,
+    ) -> Result<(), StoreFault> {
+        call(&self.contents)?;
+        let left = reader.bytes.get(reader.read..).unwrap_or(&[]);
+        let next = left.get(..most as usize).unwrap_or(left);
+        bytes.clear();
+        bytes.extend_from_slice(next)?;
+        reader.read = reader.read.saturating_add(next.len());
+        Ok(())
     }
 }

@@ -79,7 +79,7 @@ impl From<AllocError> for ReplayFault {
 /// An error of applying a log that a source gives.
 #[derive(Debug, Drop)]
 pub(crate) enum LogFault<F> {
-    /// The source refused a part that was needed.
+    /// The source refused a part.
     Source(F),
     /// The records could not be applied.
     Round(RoundFault),
@@ -111,11 +111,22 @@ impl<F> From<AllocError> for LogFault<F> {
 /// An error of a replay of a log that a source gives.
 #[derive(Debug, Drop)]
 pub enum SourceFault<F> {
-    /// The source refused a part that was needed.
+    /// The source refused a part.
     Source(F),
     /// The replay failed.
     Replay(ReplayFault),
 }
+
+impl<F: fmt::Display> fmt::Display for SourceFault<F> {
+    fn fmt<W: fmt::Write>(&self, f: &mut fmt::Formatter<W>) -> fmt::Result {
+        match self {
+            SourceFault::Source(refused) => refused.fmt(f),
+            SourceFault::Replay(fault) => fault.fmt(f),
+        }
+    }
+}
+
+impl<F: Error + fmt::Debug + fmt::Display> Error for SourceFault<F> {}
 
 impl<F: Drop> From<LogFault<F>> for SourceFault<F> {
     ghost use Rattle.std.specs.Prelude.{◌≡◌};

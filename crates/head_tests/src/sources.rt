@@ -99,10 +99,12 @@ fn check_parts<R: Abort + Threads + Wait + Sync>(
 ) -> Result<(), Fail> {
     let at = (case.name, workers, most);
     let options = by(workers);
-    let replayed = replay_source(rt, alloc, parts_of(input, most, None), &options, &NoGate)?;
+    let source = parts_of(input, most, None);
+    let (replayed, _) = replay_source(rt, alloc, source, &options, &NoGate)?;
     same(rt, at, replayed.damage, case.damage);
     same(rt, at, views(alloc, &replayed.head)?.as_str(), shown);
-    let tallied = tally_source(rt, alloc, parts_of(input, most, None), &options, &NoGate)?;
+    let source = parts_of(input, most, None);
+    let (tallied, _) = tally_source(rt, alloc, source, &options, &NoGate)?;
     let wanted = Tallied {
         counts: case.counts,
         series: case.series,
@@ -127,16 +129,16 @@ fn parts_of_some_pages(rt: HostRuntime) -> Result<(), Fail> {
     Ok(())
 }
 
-// That a refused part is handed on, or else that the damage came before it: then that is reported.
+// That a refused part is handed on, or else that it is not asked for, since the damage came at least two parts before it.
 fn check_refused(
     rt: &impl Abort,
     case: &Case,
     number: u64,
-    replayed: Result<Replayed, SourceFault<Refused>>,
+    replayed: Result<(Replayed, Parts<'_>), SourceFault<Refused>>,
 ) {
     let at = (case.name, number);
     match replayed {
-        Ok(replayed) => {
+        Ok((replayed, _)) => {
             same(rt, at, case.damage.is_some(), true);
             same(rt, at, replayed.damage, case.damage);
         }

@@ -17,7 +17,7 @@ use progress::Progress;
 use std::alloc::Global;
 use std::sync::Wait;
 use std::thread::Threads;
-use store::Store;
+use store::{PartStore, Store};
 use wal_log::{Placed, read_all};
 
 // Prints the counts of a log, one a line.
@@ -30,7 +30,7 @@ fn counted(alloc: Global, tallied: &TalliedLog) -> Result<Answer, Fault>
     Ok(Answer::told(text, tallied.flaw))
 }
 
-fn replay<R: Threads + Wait + Sync, S: Store, P: Progress + Sync>(
+fn replay<R: Threads + Wait + Sync, S: PartStore + Sync, P: Progress + Sync>(
     rt: &R,
     alloc: Global,
     store: &S,
@@ -39,6 +39,9 @@ fn replay<R: Threads + Wait + Sync, S: Store, P: Progress + Sync>(
     form: LogForm,
     options: &Options,
 ) -> Result<Answer, Fault>
+where
+    S::Reader: Send,
+    S::Writer: Send,
     ensures { MatchResult result (TellsLog (IsCountsText form (view_of (S.holds store.now)) dir.now options.now.min_valid)) TellsNoDamage }
 {
     let tallied = tally_in(rt, alloc, store, progress, dir, form, options)?;
@@ -76,7 +79,7 @@ fn selected(alloc: Global, replayed: &ReplayedLog, pair: &Option<Pair>) -> Resul
     Ok(Answer::up_to(text, replayed.flaw))
 }
 
-fn series<R: Threads + Wait + Sync, S: Store, P: Progress + Sync>(
+fn series<R: Threads + Wait + Sync, S: PartStore + Sync, P: Progress + Sync>(
     rt: &R,
     alloc: Global,
     store: &S,
@@ -86,6 +89,9 @@ fn series<R: Threads + Wait + Sync, S: Store, P: Progress + Sync>(
     pair: Option<&str>,
     options: &Options,
 ) -> Result<Answer, Fault>
+where
+    S::Reader: Send,
+    S::Writer: Send,
     ensures { MatchResult result (TellsUpTo (IsSeriesText form (view_of (S.holds store.now)) dir.now (option_map (λ w. w.now) pair.entry) options.now.min_valid)) TellsNoDamage }
 {
     let pair = pair_of(alloc, pair)?;
@@ -93,13 +99,16 @@ fn series<R: Threads + Wait + Sync, S: Store, P: Progress + Sync>(
     selected(alloc, &replayed, &pair)
 }
 
-fn execute<R: Threads + Wait + Sync, S: Store, P: Progress + Sync>(
+fn execute<R: Threads + Wait + Sync, S: PartStore + Sync, P: Progress + Sync>(
     rt: &R,
     alloc: Global,
     store: &S,
     progress: &P,
     request: Request<'_>,
 ) -> Result<Answer, Fault>
+where
+    S::Reader: Send,
+    S::Writer: Send,
     ensures { MatchResult result (Prints (view_of (S.holds store.now)) request.entry) TellsNoDamage }
 {
     match request {
@@ -119,13 +128,16 @@ fn execute<R: Threads + Wait + Sync, S: Store, P: Progress + Sync>(
 /// Carries out a request, which changes nothing in the store: prints what the log in a directory holds, in the form that is asked for, up to its
 /// damage if it is damaged.
 /// `progress` hears how far a replay is.
-pub fn carry_out_log_request<R: Threads + Wait + Sync, S: Store, P: Progress + Sync>(
+pub fn carry_out_log_request<R: Threads + Wait + Sync, S: PartStore + Sync, P: Progress + Sync>(
     rt: &R,
     alloc: Global,
     store: &S,
     progress: &P,
     request: Request<'_>,
 ) -> Answer
+where
+    S::Reader: Send,
+    S::Writer: Send,
     ensures printed { Prints (view_of (S.holds store.now)) request.entry result }
 {
     match execute(rt, alloc, store, progress, request) {

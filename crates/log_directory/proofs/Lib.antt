@@ -13,3 +13,6 @@ pub mod Whole
 mod Blocks
 mod Hints
 mod Reduced
+mod PagesOn
+mod ReadOn
+pub mod UpTo

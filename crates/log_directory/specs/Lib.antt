@@ -1,5 +1,9 @@
 pub mod Listings
 pub mod Directory
+pub mod PagesRead
+pub mod Parts
+pub mod DirectoryLogs
+pub mod Planned
 pub mod Texts
 pub mod Unpacked
 pub mod Rescued

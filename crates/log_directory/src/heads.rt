@@ -1,11 +1,13 @@
 //! Reading a log without damage, and replaying it to its head.
 
 ghost use Rattle.std.specs.Prelude.{◌≡◌, false, IfOk, None, OnOk};
+ghost use Rattle.wal_log.specs.Inputs.{Files};
 ghost use Rattle.head_serial.specs.Replays.{IsReplayed};
 ghost use Rattle.log_directory.specs.Sources.{IsSourceIn};
 ghost use Rattle.store.specs.Views.{view_of};
 ghost use Rattle.answers.specs.Answers.{IsNoDamage};
 
+use crate::replaying::replay_parts;
 use crate::source::{Source, read_source};
 use answers::{DamageLine, Fault, Flaw, LogForm};
 use head_core::Head;
@@ -14,7 +16,7 @@ use progress::{Progress, extent_of};
 use std::alloc::Global;
 use std::sync::Wait;
 use std::thread::Threads;
-use store::Store;
+use store::{PartStore, Store};
 use wal_log::Input;
 
 /// Replays a log to its head, and drops the log. Returns `Damage` if the log is damaged.
@@ -48,6 +50,13 @@ fn check_undamaged(flaw: Option<Flaw>) -> Result<(), Fault>
     }
 }
 
+/// The head of a log without damage, and what is lost of the log, if parts are.
+#[derive(Drop)]
+pub struct UndamagedLog {
+    pub head: Head,
+    pub flaw: Option<Flaw>,
+}
+
 /// Reads the log in a directory in a form. Returns `Damage` if it was read up to damage. One of which parts are lost is not refused.
 pub fn undamaged_source<S: Store>(
     alloc: Global,
@@ -61,4 +70,58 @@ pub fn undamaged_source<S: Store>(
     let source = read_source(alloc, store, dir, form)?;
     check_undamaged(source.flaw)?;
     Ok(source)
+}
+
+// Replays the log in a directory, in this form, which is read before.
+fn undamaged_read<R: Threads + Wait + Sync, S: Store, P: Progress + Sync>(
+    rt: &R,
+    alloc: Global,
+    store: &S,
+    progress: &P,
+    dir: &str,
+    form: LogForm,
+    options: &Options,
+) -> Result<UndamagedLog, Fault>
+    ensures content { IfOk result (λ r. (log : Files) × IsSourceIn form (view_of (S.holds store.now)) dir.now log r.flaw × IsReplayed log options.now.min_valid None r.head.content) }
+    ensures unhurt { IfOk result (λ r. IsNoDamage r.flaw) }
+    ensures sound { IfOk result (λ r. r.head.failed ≡ false) }
+{
+    let Source { log, flaw } = undamaged_source(alloc, store, dir, form)?;
+    let head = undamaged_head(rt, alloc, progress, log, options)?;
+    Ok(UndamagedLog { head, flaw })
+}
+
+/// Replays the log in a directory, in this form, to its head. It is read as by [`replay_in`](crate::replay_in). Returns `Damage` if the log is
+/// damaged. One of which parts are lost is not refused.
+pub fn undamaged_in<R: Threads + Wait + Sync, S: PartStore + Sync, P: Progress + Sync>(
+    rt: &R,
+    alloc: Global,
+    store: &S,
+    progress: &P,
+    dir: &str,
+    form: LogForm,
+    options: &Options,
+) -> Result<UndamagedLog, Fault>
+where
+    S::Reader: Send,
+    S::Writer: Send,
+    ensures content { IfOk result (λ r. (log : Files) × IsSourceIn form (view_of (S.holds store.now)) dir.now log r.flaw × IsReplayed log options.now.min_valid None r.head.content) }
+    ensures unhurt { IfOk result (λ r. IsNoDamage r.flaw) }
+    ensures sound { IfOk result (λ r. r.head.failed ≡ false) }
+{
+    match form {
+        LogForm::Plain => {
+            let replayed = replay_parts(rt, alloc, store, progress, dir, options)?;
+            match replayed.damage {
+                None => Ok(UndamagedLog {
+                    head: replayed.head,
+                    flaw: None,
+                }),
+                Some(damage) => Err(Fault::Damage(DamageLine(damage))),
+            }
+        }
+        LogForm::Unpacked | LogForm::PastDamage => {
+            undamaged_read(rt, alloc, store, progress, dir, form, options)
+        }
+    }
 }

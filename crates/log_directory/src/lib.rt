@@ -8,6 +8,7 @@
 #![tactic(auto)]
 
 mod directory;
+mod directory_log;
 mod flaws;
 mod greatest;
 mod heads;
@@ -17,7 +18,10 @@ mod lost;
 mod lost_lines;
 mod meta;
 mod name_slots;
+mod opening;
+mod pages_read;
 mod planning;
+mod read_fault;
 mod replaying;
 mod rescued_log;
 mod rescuing;
@@ -28,7 +32,7 @@ mod unpacking;
 
 pub use directory::{names_in, read_in, read_log, read_paths, read_planned_file};
 pub use flaws::{flaw_of_reads, lost_count};
-pub use heads::{undamaged_head, undamaged_source};
+pub use heads::{UndamagedLog, undamaged_head, undamaged_in, undamaged_source};
 pub use listed_files::{PartFile, read_listed};
 pub use listing::{Listing, list_files, list_log};
 pub use lost::{Lost, LostPart};

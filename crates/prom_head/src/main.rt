@@ -16,7 +16,7 @@ use std::rt::Env;
 use std::sync::Wait;
 use std::thread::Threads;
 use std::time::Clock;
-use store::{Disk, Store};
+use store::{Disk, PartStore};
 
 // Collects the words of the command line. The first one is the program's name.
 fn arguments<R: Env + AllocGlobal>(rt: &R) -> Result<Vec<String>, LineFault> {
@@ -60,13 +60,15 @@ fn show<R: Print + Eprint>(rt: &R, answer: &Answer, is_terminal: bool) -> Status
 }
 
 // Runs the program over a store. `is_terminal` says whether standard error is a terminal, and `bars` whether standard output is one.
-fn run_here<R, S: Store>(
+fn run_here<R, S: PartStore + Sync>(
     rt: &R,
     store: &mut S,
     is_terminal: bool,
     bars: bool,
 ) -> Result<Answer, LineFault>
 where
+    S::Reader: Send,
+    S::Writer: Send,
     R: Env + Clock + RandomSource + Eprint + AllocGlobal + Threads + Wait + Sync + Drop,
 {
     let words = arguments(rt)?;

@@ -20,18 +20,22 @@ use std::random::RandomSource;
 use std::sync::Wait;
 use std::thread::Threads;
 use std::time::Clock;
-use store::Store;
+use store::{PartStore, Store};
 use unpack_command::carry_out_unpack;
 use write_commands::{carry_out_append, carry_out_checkpoint};
 
 // Carries out what a command line asks for.
-fn carried_out<R: AllocGlobal + Threads + Wait + Sync, S: Store, P: Progress + Sync>(
+fn carried_out<R: AllocGlobal + Threads + Wait + Sync, S: PartStore + Sync, P: Progress + Sync>(
     rt: &R,
     store: &mut S,
     progress: &P,
     asked: Asked<'_>,
     bars: bool,
-) -> Answer {
+) -> Answer
+where
+    S::Reader: Send,
+    S::Writer: Send,
+{
     let alloc = rt.alloc();
     match asked {
         Asked::OfLog(request) => carry_out_log_request(rt, alloc, store, progress, request),
@@ -88,13 +92,17 @@ fn asked_in<'a, S: Store>(
 }
 
 // Carries out what a command line asks for. Where no least valid time is found, nothing is.
-fn carried_out_in<R: AllocGlobal + Threads + Wait + Sync, S: Store, P: Progress + Sync>(
+fn carried_out_in<R: AllocGlobal + Threads + Wait + Sync, S: PartStore + Sync, P: Progress + Sync>(
     rt: &R,
     store: &mut S,
     progress: &P,
     line: CommandLine<'_>,
     bars: bool,
-) -> Answer {
+) -> Answer
+where
+    S::Reader: Send,
+    S::Writer: Send,
+{
     match asked_in(rt.alloc(), store, line) {
         Ok(asked) => carried_out(rt, store, progress, asked, bars),
         Err(fault) => Answer::failed(rt.alloc(), fault),
@@ -103,7 +111,7 @@ fn carried_out_in<R: AllocGlobal + Threads + Wait + Sync, S: Store, P: Progress 
 
 // Carries out what a command line asks for, with a name that is made for the block where one is wanted. Where the system gives no time or no
 // random bits, the block has no name, and `cut` refuses it.
-fn carried_out_by_name<R, S: Store, P: Progress + Sync>(
+fn carried_out_by_name<R, S: PartStore + Sync, P: Progress + Sync>(
     rt: &R,
     store: &mut S,
     progress: &P,
@@ -111,6 +119,8 @@ fn carried_out_by_name<R, S: Store, P: Progress + Sync>(
     bars: bool,
 ) -> Result<Answer, LineFault>
 where
+    S::Reader: Send,
+    S::Writer: Send,
     R: AllocGlobal + Clock + RandomSource + Threads + Wait + Sync,
 {
     if !line.asked.lacks_name() {
@@ -129,7 +139,7 @@ where
 
 /// Runs the program over a store. The first word is the program's name. `progress` hears how far a replay is. `bars` says whether shares
 /// are also printed as bars. Where the words are refused, the store is not called.
-pub fn run<R, S: Store, P: Progress + Sync>(
+pub fn run<R, S: PartStore + Sync, P: Progress + Sync>(
     rt: &R,
     store: &mut S,
     progress: &P,
@@ -137,6 +147,8 @@ pub fn run<R, S: Store, P: Progress + Sync>(
     bars: bool,
 ) -> Result<Answer, LineFault>
 where
+    S::Reader: Send,
+    S::Writer: Send,
     R: AllocGlobal + Clock + RandomSource + Threads + Wait + Sync,
 {
     let alloc = rt.alloc();

@@ -11,7 +11,7 @@ use progress::Progress;
 use std::alloc::{AllocError, Global};
 use std::sync::Wait;
 use std::thread::Threads;
-use store::Store;
+use store::PartStore;
 
 // Returns the analysis of a head.
 fn analysis_of(alloc: Global, head: &Head, layout: Layout) -> Result<String, AllocError>
@@ -39,13 +39,17 @@ fn analyzed(alloc: Global, replayed: &ReplayedLog, layout: Layout) -> Result<Ans
     Ok(Answer::up_to(text, replayed.flaw))
 }
 
-fn execute<R: Threads + Wait + Sync, S: Store, P: Progress + Sync>(
+fn execute<R: Threads + Wait + Sync, S: PartStore + Sync, P: Progress + Sync>(
     rt: &R,
     alloc: Global,
     store: &S,
     progress: &P,
     request: AnalyzeRequest<'_>,
-) -> Result<Answer, Fault> {
+) -> Result<Answer, Fault>
+where
+    S::Reader: Send,
+    S::Writer: Send,
+{
     let AnalyzeRequest {
         dir,
         form,
@@ -60,13 +64,17 @@ fn execute<R: Threads + Wait + Sync, S: Store, P: Progress + Sync>(
 /// Carries out a request, which changes nothing in the store: prints the numbers of series, samples, metrics, names and labels, the names
 /// with the most values, the metrics with the most series and samples, and the labels with the most series, each with its share.
 /// `progress` hears how far the replay is. If the log is damaged, what it holds before the damage is analyzed.
-pub fn carry_out_analyze<R: Threads + Wait + Sync, S: Store, P: Progress + Sync>(
+pub fn carry_out_analyze<R: Threads + Wait + Sync, S: PartStore + Sync, P: Progress + Sync>(
     rt: &R,
     alloc: Global,
     store: &S,
     progress: &P,
     request: AnalyzeRequest<'_>,
-) -> Answer {
+) -> Answer
+where
+    S::Reader: Send,
+    S::Writer: Send,
+{
     match execute(rt, alloc, store, progress, request) {
         Ok(answer) => answer,
         Err(fault) => Answer::failed(alloc, fault),

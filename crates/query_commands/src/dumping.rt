@@ -17,7 +17,7 @@ use progress::Progress;
 use std::alloc::Global;
 use std::sync::Wait;
 use std::thread::Threads;
-use store::Store;
+use store::PartStore;
 
 // Prints the samples that are selected of a replayed log, of the series that have this label, one a line.
 fn dumped(
@@ -48,13 +48,16 @@ fn selection_of(request: &DumpRequest<'_>) -> Selection
     }
 }
 
-fn execute<R: Threads + Wait + Sync, S: Store, P: Progress + Sync>(
+fn execute<R: Threads + Wait + Sync, S: PartStore + Sync, P: Progress + Sync>(
     rt: &R,
     alloc: Global,
     store: &S,
     progress: &P,
     request: DumpRequest<'_>,
 ) -> Result<Answer, Fault>
+where
+    S::Reader: Send,
+    S::Writer: Send,
     ensures { MatchResult result (TellsUpTo (IsDumpIn request.entry.form (view_of (S.holds store.now)) request.entry.dir.now (option_map (λ w. w.now) request.entry.pair) request.entry.options.min_valid
         (record { from = request.entry.from; to = request.entry.to; with_hidden = request.entry.hidden }) request.entry.floats)) TellsNoDamage }
 {
@@ -72,13 +75,16 @@ fn execute<R: Threads + Wait + Sync, S: Store, P: Progress + Sync>(
 
 /// Carries out a request, which changes nothing in the store: prints a line for each sample, series by slot and samples by time, as
 /// `dump_text` does. `progress` hears how far the replay is. If the log is damaged, what it holds before the damage is printed.
-pub fn carry_out_dump<R: Threads + Wait + Sync, S: Store, P: Progress + Sync>(
+pub fn carry_out_dump<R: Threads + Wait + Sync, S: PartStore + Sync, P: Progress + Sync>(
     rt: &R,
     alloc: Global,
     store: &S,
     progress: &P,
     request: DumpRequest<'_>,
 ) -> Answer
+where
+    S::Reader: Send,
+    S::Writer: Send,
     ensures { TellsUpTo (IsDumpIn request.entry.form (view_of (S.holds store.now)) request.entry.dir.now (option_map (λ w. w.now) request.entry.pair) request.entry.options.min_valid
         (record { from = request.entry.from; to = request.entry.to; with_hidden = request.entry.hidden }) request.entry.floats) result }
 {

@@ -9,29 +9,33 @@ use crate::hours::write_hours;
 use crate::report::Telling;
 use answers::{Answer, BlocksRequest, Fault};
 use block_read::Ulid;
-use log_directory::{Source, undamaged_head, undamaged_source};
+use log_directory::{UndamagedLog, undamaged_in};
 use progress::Progress;
 use std::alloc::Global;
 use std::sync::Wait;
 use std::thread::Threads;
-use store::Store;
+use store::PartStore;
 
 // Carries out a request, or returns why it failed.
-fn execute<R: Threads + Wait + Sync, S: Store, P: Progress + Sync>(
+fn execute<R: Threads + Wait + Sync, S: PartStore + Sync, P: Progress + Sync>(
     rt: &R,
     alloc: Global,
     store: &mut S,
     progress: &P,
     request: BlocksRequest<'_>,
 ) -> Result<Answer, Fault>
+where
+    S::Reader: Send,
+    S::Writer: Send,
     ensures crash { WritesBlocks S.did S.holds store.old request.entry (IsOk result) (λ own. IfOk result (λ answer. TellsLost answer own)) store.new }
     ensures done { IfOk result (λ answer. answer.status ≡ Done → answer.fault ≡ None) }
 {
     let Ok(ulid) = Ulid::new(request.ulid) else {
         return Err(Fault::BadUlid);
     };
-    let Source { log, flaw } = undamaged_source(alloc, store, request.dir, request.form)?;
-    let head = undamaged_head(rt, alloc, progress, log, &request.options)?;
+    let (dir, form) = (request.dir, request.form);
+    let log = undamaged_in(rt, alloc, store, progress, dir, form, &request.options)?;
+    let UndamagedLog { head, flaw } = log;
     let text = write_hours(rt, alloc, store, &head, request.out, ulid, &Telling::Blocks)?;
     Ok(Answer::up_to(text, flaw))
 }
@@ -39,13 +43,16 @@ fn execute<R: Threads + Wait + Sync, S: Store, P: Progress + Sync>(
 /// Carries out a request: writes a block for each hour of a log that has a sample, and says which. Nothing is written if the name that is given
 /// is not a ULID, or if the log is damaged and not read past its damage. If parts of the log are lost, that is reported besides the blocks. Where
 /// it fails, the blocks of the hours before are written, and a later run leaves them.
-pub fn carry_out_blocks<R: Threads + Wait + Sync, S: Store, P: Progress + Sync>(
+pub fn carry_out_blocks<R: Threads + Wait + Sync, S: PartStore + Sync, P: Progress + Sync>(
     rt: &R,
     alloc: Global,
     store: &mut S,
     progress: &P,
     request: BlocksRequest<'_>,
 ) -> Answer
+where
+    S::Reader: Send,
+    S::Writer: Send,
     ensures crash { WritesBlocks S.did S.holds store.old request.entry (IsWell result) (TellsLost result) store.new }
     // Status 0 is that of a run after which no fault is reported.
     ensures done { result.status ≡ Done → result.fault ≡ None }

@@ -6,10 +6,11 @@ ghost use Rattle.std.specs.Fs.{dir_entry_name};
 ghost use Rattle.store.specs.Entries.{Gives};
 
 use crate::part::read_pages;
+use crate::part_store::PartStore;
 use crate::reason::Reason;
 use crate::several::{ReadFile, read_several};
 use crate::store::{PartRead, Store, StoreFault};
-use crate::whole::{read_whole, write_whole};
+use crate::whole::{MOST_READS, fill_next, read_whole, write_whole};
 use hash_seed::HashSeed;
 use std::alloc::{AllocError, Global};
 use std::fs::{DirEntry, File, OpenFile};
@@ -311,5 +312,43 @@ impl<R: Threads> Store for Disk<'_, R> {
 
     fn remove_file(&mut self, path: &str) -> Result<(), StoreFault> {
         Ok(fs::remove_file(&self.host, path)?)
+    }
+}
+
+/// A file of the system that is open for reading, and how many calls of `read` may still be made.
+#[derive(Drop)]
+pub struct DiskReader {
+    file: File,
+    calls: u64,
+}
+
+impl<R: Threads> PartStore for Disk<'_, R> {
+    type Reader = DiskReader;
+
+    ghost has_read = { λ _ _ _. ⊤ };
+
+    fn open(&self, path: &str) -> Result<DiskReader, StoreFault> {
+        check_file(self.host, path)?;
+        Ok(DiskReader {
+            file: File::open(&self.host, path)?,
+            calls: MOST_READS,
+        })
+    }
+
+    fn expected_length(&self, reader: &DiskReader) -> u64 {
+        length_of(&reader.file)
+    }
+
+    // a buffer that was full before has its length, and is not filled with zeros again
+    fn read_next(
+        &self,
+        reader: &mut DiskReader,
+        most: u64,
+        bytes: &mut Vec<u8>,
+    ) -> Result<(), StoreFault> {
+        bytes.resize(most as usize, 0)?;
+        let filled = fill_next(&mut reader.file, &mut reader.calls, bytes)?;
+        bytes.truncate(filled);
+        Ok(())
     }
 }

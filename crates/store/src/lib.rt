@@ -3,6 +3,7 @@
 
 mod disk;
 mod part;
+mod part_store;
 mod paths;
 mod reason;
 mod several;
@@ -10,10 +11,11 @@ mod shown;
 mod store;
 mod whole;
 
-pub use disk::{Disk, names_of};
+pub use disk::{Disk, DiskReader, names_of};
+pub use part_store::PartStore;
 pub use paths::join;
 pub use reason::Reason;
 pub use several::{ReadFile, read_several};
 pub use shown::ShownPath;
 pub use store::{PartRead, Store, StoreFault, Unread};
-pub use whole::{read_whole, write_whole};
+pub use whole::{fill_next, read_whole, write_whole};

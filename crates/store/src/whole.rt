@@ -1,7 +1,7 @@
-//! Bytes that are read and written whole.
+//! Bytes that are read and written whole, or read part by part.
 
-ghost use Rattle.std.specs.Prelude.{◌≡◌, IfOk, IfSome, OnOk};
-ghost use Rattle.std.specs.Io.KnownBytes.{Appends};
+ghost use Rattle.std.specs.Prelude.{◌≡◌, ◌<◌, ◌≤◌, IfOk, IfSome, OnOk, length, take};
+ghost use Rattle.std.specs.Io.KnownBytes.{Appends, Consumes, IsAtEnd};
 
 use crate::store::StoreFault;
 use std::alloc::Global;
@@ -9,7 +9,7 @@ use std::io;
 use std::io::{ErrorKind, Read, Write};
 
 /// The most calls of `read` for one file. A device that never ends is refused after them.
-const MOST_READS: u64 = 4_294_967_296;
+pub(crate) const MOST_READS: u64 = 4_294_967_296;
 
 // A reader that returns an error once `reads_left` calls of `read` were made.
 #[derive(Drop)]
@@ -47,6 +47,34 @@ pub fn read_whole<R: Read>(
     };
     limited.read_to_end(&mut bytes)?;
     Ok(bytes)
+}
+
+/// Reads the next bytes of a reader into `buf`, by at most `calls` calls of `read`, which are counted down: as many as it has left, or as `buf`
+/// has room for. Returns how many. Returns an error where the reader fails, or where the calls do not suffice.
+pub fn fill_next<R: Read>(
+    reader: &mut R,
+    calls: &mut u64,
+    buf: &mut [u8],
+) -> Result<usize, StoreFault>
+    ensures within { IfOk result (λ n. n ≤ length buf.new) }
+    ensures length { length buf.new ≡ length buf.old }
+    ensures bytes { IfOk result (λ n. Consumes (R.remaining reader.old) (R.remaining reader.new) (take n buf.new)) }
+    ensures end { IfOk result (λ n. n < length buf.new → IsAtEnd (R.remaining reader.new)) }
+{
+    let mut filled = 0;
+    while filled < buf.len() {
+        if *calls == 0 {
+            return Err(StoreFault::from(io::Error::from(ErrorKind::TimedOut)));
+        }
+        *calls -= 1;
+        match reader.read(&mut buf[filled..]) {
+            Ok(0) => break,
+            Ok(count) => filled += count,
+            Err(error) if error.kind() == ErrorKind::Interrupted => {}
+            Err(error) => return Err(StoreFault::from(error)),
+        }
+    }
+    Ok(filled)
 }
 
 /// Writes all of these bytes to a writer, in order, after what was written to it before, however few it takes at a time. Returns an error

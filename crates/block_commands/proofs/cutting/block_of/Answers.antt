@@ -7,20 +7,16 @@ use Rattle.hour_rows.specs.Rows.{rows_of}
 use Rattle.log_directory.proofs.Told.{told_ok}
 use Rattle.block_commands.proofs.cutting.block_of.Goals as goal
 
-pub returns-clause-block : goal.returns-clause-block
-returns-clause-block g c =
-    let replayed = c.in_ok-head.ensures.content in
+pub returns : goal.returns
+returns g c = λ log m replayed.
     let hour : c.in-Some.hour ≡ c.args.hour = c.in-Some.ensures.some.0 ∙ to_z-of_z w64 c.args.hour c.ranges.hour in
-    told_ok c.cut_in.result c.map_err.result _ _ (λ block. IsBlockOfLog c.args.encoding c.args.log c.args.options.now.min_valid c.args.hour c.args.ulid.now block) c.map_err.ensures.cases
+    told_ok c.cut_in.result c.map_err.result _ _ (λ block. IsBlockOfLog c.args.encoding log m c.args.hour c.args.ulid.now block) c.map_err.ensures.cases
     (λ block is. record {
       records = replayed.placed;
       damage = None;
-      content = c.in_ok-head.head.content;
+      content = c.args.head.content;
       reading = replayed.reading;
       is_content = replayed.content;
       min_valid = replayed.min_valid;
-      is_block = subst (λ (k : ℤ). IsBlockOf c.args.encoding block (record { ulid = c.args.ulid.now; hour = k; rows = rows_of k c.in_ok-head.head.content })) hour is;
+      is_block = subst (λ (k : ℤ). IsBlockOf c.args.encoding block (record { ulid = c.args.ulid.now; hour = k; rows = rows_of k c.args.head.content })) hour is;
     }) c.cut_in.ensures.block
-
-pub returns-clause-undamaged : goal.returns-clause-undamaged
-returns-clause-undamaged g c = told_ok c.cut_in.result c.map_err.result _ _ _ c.map_err.ensures.cases (λ _ _. (c.in_ok-head.ensures.content.placed, c.in_ok-head.ensures.content.reading)) c.cut_in.ensures.block

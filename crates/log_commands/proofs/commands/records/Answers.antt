@@ -6,6 +6,7 @@ use Rattle.store.specs.Views.{view_of}
 use Rattle.log_commands.proofs.Answered.{records_told}
 use Rattle.log_directory.proofs.Told.{told_err}
 use Rattle.log_directory.proofs.Unread.{no_memory}
+use Rattle.log_directory.proofs.UpTo.{source_up_to}
 use Rattle.log_commands.proofs.commands.records.Goals as goal
 
 pub returns-in_err-source : goal.returns-in_err-source
@@ -20,7 +21,7 @@ returns g c =
     (record {
       log = c.in_ok-source.source.log;
       own = c.in_ok-source.source.flaw;
-      read = c.in_ok-source.ensures;
+      read = source_up_to c.args.form _ c.args.dir.now c.in_ok-reading.reading.damage c.in_ok-source.source.log c.in_ok-source.source.flaw c.in_ok-source.ensures;
       damage = c.in_ok-reading.reading.damage;
       reading = subst (λ (placed : List Placed). IsReading c.in_ok-source.source.log placed c.in_ok-reading.reading.damage) (sym c.as_slice.ensures) c.in_ok-reading.ensures.reading;
       is = c.flaw_of-flaw.ensures;
