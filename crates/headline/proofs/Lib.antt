@@ -1,3 +1,4 @@
 pub mod Stretched
 pub mod Recorded
 pub mod Unlimited
+pub mod Still

@@ -1,2 +1,3 @@
 pub mod Stretched
 pub mod Records
+pub mod Still

@@ -8,6 +8,9 @@
 //! **An hour has one block.** Clauses `block` and `one`: what is cut from such a head is the block of the log, and the log has one block for an
 //! hour, a name and an encoding of chunks, byte for byte.
 //!
+//! **What is behind a damage changes nothing.** [`damage_ends_reading`]: the commands read the files of a directory one after another, and
+//! stop at the first damage. If nobody changes the directory meanwhile, what they have read is what the log of all its files reads as.
+//!
 //! **A rescue adds nothing and leaves out nothing that can be read.** [`stretches_read`]: the log that a rescue replays has just the records
 //! of the stretches that are whole in the files of the directory, in order. Clauses `records` and `rescued` of [`however_dealt`]: that log
 //! reads as these records, without damage, and each byte of its blocks is defined by them.
@@ -23,8 +26,10 @@
 //! definitions behind the head and its blocks are in docs/READING.md, in the order in which to read them; docs/DEFINITIONS.md lists the others.
 #![tactic(auto)]
 
+mod directories;
 mod laws;
 mod stretches;
 
+pub use directories::damage_ends_reading;
 pub use laws::{checkpoint_equivalence, however_dealt, no_limit, whole_checkpoint_equivalence};
 pub use stretches::stretches_read;
