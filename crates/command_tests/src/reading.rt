@@ -88,26 +88,6 @@ const SAMPLES: Case = Case {
     dir: "log",
 };
 
-// A record of no bytes in the last segment.
-const NO_SAMPLES: Case = Case {
-    standing: &[
-        ("log/", b""),
-        ("log/00000000", THREE_SERIES),
-        ("log/00000001", RECORD_OF_NO_BYTES),
-    ],
-    ..SAMPLES
-};
-
-// Many pages without a fragment in the last segment.
-const PAGES: Case = Case {
-    standing: &[
-        ("log/", b""),
-        ("log/00000000", THREE_SERIES),
-        ("log/00000001", &[0; 300_000]),
-    ],
-    ..SAMPLES
-};
-
 // The call that opens the last segment a second time: the log is listed, its two segments are opened, and the first is opened again and read.
 const OPENS_LAST: u64 = 6;
 
@@ -125,16 +105,18 @@ fn run<R: Abort + Threads + Wait + Sync + AllocGlobal>(
 // That what is read counts, not what was planned: a log whose last segment is another once it is opened again is that one.
 fn assert_changed<R: Abort + Threads + Wait + Sync + AllocGlobal>(
     rt: &R,
-    planned: &Case,
-    read: &Case,
-    acts: &'static [Act],
+    planned: &'static [Act],
+    read: &'static [Act],
 ) -> Result<(), StoreFault> {
     for options in OPTIONS {
-        let asked = replayed_by(planned.asked, *options);
-        let mut shelf = shelf_of(rt.alloc(), planned)?;
-        shelf.meanwhile(OPENS_LAST, acts)?;
+        let asked = replayed_by(SAMPLES.asked, *options);
+        let mut shelf = shelf_of(rt.alloc(), &SAMPLES)?;
+        shelf.act(planned)?;
+        shelf.meanwhile(OPENS_LAST, read)?;
         let found = run(rt, &mut shelf, asked)?;
-        let wanted = run(rt, &mut shelf_of(rt.alloc(), read)?, asked)?;
+        let mut changed = shelf_of(rt.alloc(), &SAMPLES)?;
+        changed.act(read)?;
+        let wanted = run(rt, &mut changed, asked)?;
         same(rt, asked, found, wanted);
     }
     Ok(())
@@ -142,14 +124,19 @@ fn assert_changed<R: Abort + Threads + Wait + Sync + AllocGlobal>(
 
 const GONE: Act = Act::Remove("log/00000001");
 
+// The last segment with samples, with a record of no bytes, and with many pages without a fragment.
+const AS_SAMPLES: &[Act] = &[GONE, Act::Put("log/00000001", SAMPLES_OF_THREE_SERIES)];
+
+const AS_NO_SAMPLES: &[Act] = &[GONE, Act::Put("log/00000001", RECORD_OF_NO_BYTES)];
+
+const AS_PAGES: &[Act] = &[GONE, Act::PutZeros("log/00000001", 300)];
+
 #[test]
 fn files_that_are_longer_or_shorter_than_planned(rt: HostRuntime) -> Result<(), StoreFault> {
-    let samples: &'static [Act] = &[GONE, Act::Put("log/00000001", SAMPLES_OF_THREE_SERIES)];
-    assert_changed(&rt, &NO_SAMPLES, &SAMPLES, samples)?;
-    assert_changed(&rt, &PAGES, &SAMPLES, samples)?;
-    let none: &'static [Act] = &[GONE, Act::Put("log/00000001", RECORD_OF_NO_BYTES)];
-    assert_changed(&rt, &SAMPLES, &NO_SAMPLES, none)?;
-    assert_changed(&rt, &PAGES, &NO_SAMPLES, none)?;
-    let pages: &'static [Act] = &[GONE, Act::Put("log/00000001", &[0; 300_000])];
-    assert_changed(&rt, &NO_SAMPLES, &PAGES, pages)
+    for planned in [AS_SAMPLES, AS_NO_SAMPLES, AS_PAGES] {
+        for read in [AS_SAMPLES, AS_NO_SAMPLES, AS_PAGES] {
+            assert_changed(&rt, planned, read)?;
+        }
+    }
+    Ok(())
 }

@@ -24,6 +24,8 @@ pub enum Act {
     PutDir(&'static str),
     /// Creates a file with these bytes, and syncs it.
     Put(&'static str, &'static [u8]),
+    /// Creates a file of so many kibibytes of zeros, and syncs it.
+    PutZeros(&'static str, usize),
     Rename(&'static str, &'static str),
     Remove(&'static str),
 }
@@ -51,6 +53,16 @@ fn put_file(tree: &mut Tree, path: &str, bytes: &[u8]) -> Result<(), StoreFault>
     Ok(())
 }
 
+// Puts a file of so many kibibytes of zeros there, and syncs it.
+fn put_zeros(tree: &mut Tree, path: &str, count: usize) -> Result<(), StoreFault> {
+    let file = tree.create_file(path)?;
+    for _kibibyte in 0..count {
+        tree.append(file, &[0; 1024])?;
+    }
+    tree.crash(Kept::All, Kept::All)?;
+    Ok(())
+}
+
 // Puts a directory there, and syncs it.
 fn put_dir(tree: &mut Tree, path: &str) -> Result<(), StoreFault> {
     tree.create_dir(path)?;
@@ -63,6 +75,7 @@ fn act_all(tree: &mut Tree, acts: &[Act]) -> Result<(), StoreFault> {
         match *act {
             Act::PutDir(path) => put_dir(tree, path)?,
             Act::Put(path, bytes) => put_file(tree, path, bytes)?,
+            Act::PutZeros(path, count) => put_zeros(tree, path, count)?,
             Act::Rename(from, to) => tree.rename(from, to)?,
             Act::Remove(path) => tree.remove_file(path)?,
         }
@@ -122,6 +135,11 @@ impl Shelf {
         Ok(Shelf {
             contents: Mutex::new(contents),
         })
+    }
+
+    /// Does what another program does, with no call counted.
+    pub fn act(&mut self, acts: &[Act]) -> Result<(), StoreFault> {
+        act_all(&mut lock(&self.contents)?.tree, acts)
     }
 
     /// Puts a directory there and syncs it, with no call counted.
