@@ -10,12 +10,14 @@ ghost use Rattle.index_text.specs.declared.fault.ReadFault.{ReadFault as IndexFa
 ghost use Rattle.block_read.specs.declared.fault.BlockFault.TheVariants as block;
 ghost use Rattle.head_replay.specs.declared.fault.ReplayFault.TheVariants as replay;
 ghost use Rattle.new_files.specs.declared.fault.WriteFault.TheVariants as write;
+ghost use Rattle.answers.specs.declared.output.PrintFault.TheVariants as print;
 ghost use Rattle.new_files.specs.Faults.{NamesPath};
 ghost use Rattle.answers.specs.declared.fault.Fault.TheVariants.{BadChunks, BadIndex, BadMeta, BadTombstones, BadUlid, Full, Gap, NoLog, NoPair, OutOfMemory, TooLarge, Workers};
 ghost use Rattle.answers.specs.Damages.{gap_text};
 ghost use Rattle.answers.specs.Faults.{TellsDamage, TellsNoDamage, TellsTaken, TellsUnread, TellsUnwritten, path_text};
 
 use crate::damage::{DamageLine, FileNumber};
+use crate::output::PrintFault;
 use block_index::ReadFault;
 use block_read::BlockFault;
 use head_replay::ReplayFault;
@@ -160,6 +162,8 @@ pub enum Fault {
     RefsSpent,
     /// The records of the accepted rows do not fit in one segment.
     SegmentFull,
+    /// Standard output refused a text.
+    CannotPrint,
     OutOfMemory,
     /// A thread could not start.
     Workers,
@@ -229,6 +233,7 @@ impl Fault {
             Fault::LabelsNotAscending { .. } => "label names not ascending",
             Fault::RefsSpent => "references spent",
             Fault::SegmentFull => "rows do not fit one segment",
+            Fault::CannotPrint => "cannot write standard output",
             Fault::OutOfMemory => "out of memory",
             Fault::Workers => "a thread could not start",
         }
@@ -275,6 +280,7 @@ impl Fault {
             | Fault::LabelsNotAscending { .. }
             | Fault::RefsSpent
             | Fault::SegmentFull
+            | Fault::CannotPrint
             | Fault::Edge
             | Fault::NotFull
             | Fault::NoSamples => Status::Refused,
@@ -390,6 +396,17 @@ impl From<BlockFault> for Fault {
             BlockFault::BadChunks => Fault::BadChunks,
             BlockFault::BadTombstones => Fault::BadTombstones,
             BlockFault::BadMeta => Fault::BadMeta,
+        }
+    }
+}
+
+impl From<PrintFault> for Fault {
+    ghost from_gives = { λ e f. ((f ≡ OutOfMemory) ↔ (e ≡ print.Memory)) × TellsNoDamage f };
+
+    fn from(fault: PrintFault) -> Fault {
+        match fault {
+            PrintFault::Refused => Fault::CannotPrint,
+            PrintFault::Memory => Fault::OutOfMemory,
         }
     }
 }

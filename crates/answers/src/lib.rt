@@ -6,6 +6,7 @@ mod damage;
 mod fault;
 mod line;
 mod number_lines;
+mod output;
 mod requests;
 mod spelling;
 
@@ -15,6 +16,7 @@ pub use damage::{DamageLine, FileNumber, Flaw, kind_of_file};
 pub use fault::{Cause, Fault, NumberGap, Status};
 pub use line::LineFault;
 pub use number_lines::push_numbers;
+pub use output::{Output, PrintFault, print_long};
 pub use requests::{
     AnalyzeRequest, AppendRequest, BlockRequest, BlocksRequest, CheckpointRequest, CutRequest,
     DumpRequest, InspectRequest, LogForm, Request, RescueRequest, UnpackRequest,

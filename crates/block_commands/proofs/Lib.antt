@@ -2,3 +2,4 @@ pub mod Folders
 pub mod Free
 pub mod Less
 pub mod ReadParts
+pub mod Uncut

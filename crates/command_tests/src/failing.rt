@@ -116,15 +116,6 @@ const READS_OF_LOG: &[(&str, &str)] = &[
     ("cannot read log/00000007", IN_CHECKPOINT),
 ];
 
-// Names are looked at first, then files are read in the order of the log, and then the bytes are looked at.
-#[test]
-fn each_read_of_a_log_fails(rt: HostRuntime) -> Result<(), StoreFault> {
-    let listed = "checkpoint 00000000 0 skipped 0\nsegment 00000005 0 skipped 0\n\
-        damage segment 00000006 offset 0 kind 3 BadType\n";
-    let done = ((1, listed, ""), IN_CHECKPOINT);
-    assert_each(&rt, &RECORDS, READS_OF_LOG, done)
-}
-
 // The same log, file by file.
 const INSPECT: Case = Case {
     asked: Asked::Inspect(InspectRequest {

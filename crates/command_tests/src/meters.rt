@@ -2,6 +2,7 @@
 
 use crate::checks::{ULID, same};
 use crate::fragments::*;
+use crate::printed::Printed;
 use crate::runs::{CUT, Case, carried_out, shelf_of};
 use answers::{AnalyzeRequest, DumpRequest, Encoding, LogForm, Request};
 use block_commands::{BlockRequest, CutRequest};
@@ -209,8 +210,10 @@ fn assert_replay<R: Abort + Threads + Wait + Sync + AllocGlobal, P: Progress + S
     progress: &P,
 ) -> Result<(), StoreFault> {
     let shelf = shelf_of(rt.alloc(), &SAMPLES)?;
-    let want = carry_out_log_request(rt, rt.alloc(), &shelf, &NoGate, REPLAY_BY_PAGES);
-    let found = carry_out_log_request(rt, rt.alloc(), &shelf, progress, REPLAY_BY_PAGES);
+    let alloc = rt.alloc();
+    let out = Printed::new(alloc);
+    let (want, out) = carry_out_log_request(rt, alloc, &shelf, &NoGate, out, REPLAY_BY_PAGES);
+    let (found, _out) = carry_out_log_request(rt, alloc, &shelf, progress, out, REPLAY_BY_PAGES);
     let (found, want) = (
         (found.status as u8, found.printed.as_str()),
         (want.status as u8, want.printed.as_str()),

@@ -251,7 +251,7 @@ fn options_of_unpack(rt: HostRuntime) -> Result<(), AllocError> {
 
 // Each fault that stands for itself, with its status and its text. That rows are longer than a segment of 134,217,728 bytes is shown of the
 // log's writer, in small. No run here is refused a thread, or comes to a head that is full.
-const FAULTS: [(Fault, u8, &str); 16] = [
+const FAULTS: [(Fault, u8, &str); 17] = [
     (Fault::NoPair, 2, "pair must be NAME=VALUE"),
     (Fault::BadUlid, 2, "ulid must be 26 Crockford characters"),
     (Fault::BadChunks, 1, "bad chunks"),
@@ -266,6 +266,7 @@ const FAULTS: [(Fault, u8, &str); 16] = [
     (Fault::Full, 3, "too many series"),
     (Fault::RefsSpent, 3, "references spent"),
     (Fault::SegmentFull, 3, "rows do not fit one segment"),
+    (Fault::CannotPrint, 3, "cannot write standard output"),
     (Fault::OutOfMemory, 4, "out of memory"),
     (Fault::Workers, 4, "a thread could not start"),
 ];

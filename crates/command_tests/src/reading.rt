@@ -3,7 +3,7 @@
 use crate::checks::same;
 use crate::failing::{IN_CHECKPOINT, RECORDS, assert_each};
 use crate::fragments::*;
-use crate::runs::{ANY, Case, OPTIONS, carried_out, complaint, replayed_by, shelf_of};
+use crate::runs::{ANY, Case, LISTS, OPTIONS, carried_out, complaint, replayed_by, shelf_of};
 use crate::shelf::{Act, Shelf};
 use answers::{LogForm, Request};
 use command_line::Asked;
@@ -72,9 +72,16 @@ expired_stones 0
 damage segment 00000006 offset 0 kind 3 BadType
 ";
 
+const LISTED: &str = "\
+checkpoint 00000000 0 skipped 0
+segment 00000005 0 skipped 0
+damage segment 00000006 offset 0 kind 3 BadType
+";
+
 #[test]
-fn each_read_of_a_replay_fails(rt: HostRuntime) -> Result<(), StoreFault> {
-    assert_each(&rt, &DAMAGED, READS, ((1, COUNTED, ""), IN_CHECKPOINT))
+fn each_read_of_a_log_fails(rt: HostRuntime) -> Result<(), StoreFault> {
+    assert_each(&rt, &DAMAGED, READS, ((1, COUNTED, ""), IN_CHECKPOINT))?;
+    assert_each(&rt, &RECORDS, READS, ((1, LISTED, ""), IN_CHECKPOINT))
 }
 
 // Samples in the last segment.
@@ -103,23 +110,33 @@ fn run<R: Abort + Threads + Wait + Sync + AllocGlobal>(
 }
 
 // That what is read counts, not what was planned: a log whose last segment is another once it is opened again is that one.
+fn assert_changed_for<R: Abort + Threads + Wait + Sync + AllocGlobal>(
+    rt: &R,
+    asked: Asked<'_>,
+    planned: &'static [Act],
+    read: &'static [Act],
+) -> Result<(), StoreFault> {
+    let mut shelf = shelf_of(rt.alloc(), &SAMPLES)?;
+    shelf.act(planned)?;
+    shelf.meanwhile(OPENS_LAST, read)?;
+    let found = run(rt, &mut shelf, asked)?;
+    let mut changed = shelf_of(rt.alloc(), &SAMPLES)?;
+    changed.act(read)?;
+    let wanted = run(rt, &mut changed, asked)?;
+    same(rt, asked, found, wanted);
+    Ok(())
+}
+
+// The same for replays by each of the options, and for the list of the records.
 fn assert_changed<R: Abort + Threads + Wait + Sync + AllocGlobal>(
     rt: &R,
     planned: &'static [Act],
     read: &'static [Act],
 ) -> Result<(), StoreFault> {
     for options in OPTIONS {
-        let asked = replayed_by(SAMPLES.asked, *options);
-        let mut shelf = shelf_of(rt.alloc(), &SAMPLES)?;
-        shelf.act(planned)?;
-        shelf.meanwhile(OPENS_LAST, read)?;
-        let found = run(rt, &mut shelf, asked)?;
-        let mut changed = shelf_of(rt.alloc(), &SAMPLES)?;
-        changed.act(read)?;
-        let wanted = run(rt, &mut changed, asked)?;
-        same(rt, asked, found, wanted);
+        assert_changed_for(rt, replayed_by(SAMPLES.asked, *options), planned, read)?;
     }
-    Ok(())
+    assert_changed_for(rt, LISTS, planned, read)
 }
 
 const GONE: Act = Act::Remove("log/00000001");

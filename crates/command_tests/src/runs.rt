@@ -2,8 +2,11 @@
 
 use crate::checks::ULID;
 use crate::fragments::*;
+use crate::printed::Printed;
 use crate::shelf::Shelf;
-use answers::{AnalyzeRequest, Answer, DumpRequest, Encoding, LogForm, Request, UnpackRequest};
+use answers::{
+    AnalyzeRequest, Answer, DumpRequest, Encoding, LogForm, Output, Request, UnpackRequest,
+};
 use block_commands::{BlockRequest, CutRequest, carry_out_block};
 use command_line::Asked;
 use head_replay::Options;
@@ -105,18 +108,37 @@ where
     S::Writer: Send,
 {
     let alloc = rt.alloc();
-    match asked {
-        Asked::OfLog(request) => carry_out_log_request(rt, alloc, store, progress, request),
+    let (answer, out) = printed_on(rt, store, progress, Printed::new(alloc), asked);
+    out.with(alloc, answer)
+}
+
+/// Carries out what is asked for, and prints on `out` meanwhile. Also returns the output.
+pub fn printed_on<
+    R: Threads + Wait + Sync + AllocGlobal,
+    S: PartStore + Sync,
+    P: Progress + Sync,
+    O: Output,
+>(rt: &R, store: &mut S, progress: &P, out: O, asked: Asked<'_>) -> (Answer, O)
+where
+    S::Reader: Send,
+    S::Writer: Send,
+{
+    let alloc = rt.alloc();
+    let answer = match asked {
+        Asked::OfLog(request) => {
+            return carry_out_log_request(rt, alloc, store, progress, out, request);
+        }
+        Asked::Dump(request) => return carry_out_dump(rt, alloc, store, progress, out, request),
         Asked::Inspect(request) => carry_out_inspect(alloc, store, request),
         Asked::Analyze(request) => carry_out_analyze(rt, alloc, store, progress, request),
-        Asked::Dump(request) => carry_out_dump(rt, alloc, store, progress, request),
         Asked::OfBlocks(request) => carry_out_block(rt, alloc, store, progress, request),
         Asked::Blocks(request) => carry_out_blocks(rt, alloc, store, progress, request),
         Asked::Rescue(request) => carry_out_rescue(rt, alloc, store, progress, request),
         Asked::Append(request) => carry_out_append(rt, alloc, store, progress, request),
         Asked::Checkpoint(request) => carry_out_checkpoint(alloc, store, request),
         Asked::Unpack(request) => carry_out_unpack(alloc, store, request),
-    }
+    };
+    (answer, out)
 }
 
 /// What is said of an answer on standard error.
@@ -126,6 +148,12 @@ pub fn complaint(alloc: Global, answer: &Answer) -> Result<String, AllocError> {
         None => Ok(String::new(alloc)),
     }
 }
+
+/// The records of a log are listed.
+pub const LISTS: Asked<'static> = Asked::OfLog(Request::Records {
+    dir: "log",
+    form: LogForm::Plain,
+});
 
 /// An hour of three series is cut.
 pub const CUT: Case = Case {

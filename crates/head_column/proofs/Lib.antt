@@ -8,6 +8,7 @@ pub mod Gathered
 pub mod Validity
 pub mod ValidityWorked
 pub mod TallyLaws
+pub mod KeptLaws
 pub mod HourLaws
 pub mod ReadLaws
 pub mod SampleCodes

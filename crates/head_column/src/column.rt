@@ -20,8 +20,8 @@ use head_deal::Builder;
 use std::alloc::{AllocError, Global};
 use std::marker::Model;
 
-// Copies the sample. For proofs: its numbers fit in 64 bits.
-fn fit_copy(sample: &Sample) -> Sample
+/// Copies the sample. For proofs: its numbers fit in 64 bits.
+pub(crate) fn fit_copy(sample: &Sample) -> Sample
     ensures same { result ≡ sample.now }
     ensures fit { IsFit result }
 {

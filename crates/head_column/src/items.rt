@@ -1,5 +1,8 @@
 //! The items of a series, and their outcomes.
 
+ghost use Rattle.std.specs.Prelude.{◌≡◌};
+ghost use Rattle.head_column.specs.Runs.{spans};
+
 /// A sample: a time in milliseconds, and a value, whose eight bytes are kept as a signed number.
 #[derive(Clone, Copy, Debug, PartialEq, Eq)]
 pub struct Sample {
@@ -12,6 +15,23 @@ pub struct Sample {
 pub struct Run {
     pub min_time: i64,
     pub max_time: i64,
+}
+
+impl Run {
+    /// The run of all times.
+    pub fn always() -> Run {
+        Run {
+            min_time: i64::MIN,
+            max_time: i64::MAX,
+        }
+    }
+
+    /// Returns whether a time is in the run.
+    pub fn spans(&self, time: i64) -> bool
+        ensures { result ≡ spans self.now time }
+    {
+        self.min_time <= time && time <= self.max_time
+    }
 }
 
 /// An item of a series: a sample, or a deletion (a *stone*), which hides the times of a run.

@@ -5,6 +5,7 @@ ghost use Rattle.std.specs.List.{scan};
 ghost use Rattle.head_column.specs.declared.items.Item.{Item as AnItem};
 ghost use Rattle.head_column.specs.declared.items.Run.{Run as ARun};
 ghost use Rattle.head_column.specs.Histories.{History, IsHistoryOf, has_reached, history_after, history_of, history_outcome, no_history};
+ghost use Rattle.head_column.specs.Kept.{kept_after, kept_of, kept_outcome};
 ghost use Rattle.head_column.specs.Items.{is_stale, outcome_of, outcomes_of, samples_of};
 ghost use Rattle.head_column.specs.Runs.{AreRunsOf};
 ghost use Rattle.head_column.specs.Tallies.{latest_after, latest_of, latest_outcome};
@@ -35,6 +36,13 @@ pub fn tallies_follow_items()
     ensures outcome { (items : List AnItem) (i : AnItem) → latest_outcome (latest_of items) i ≡ outcome_of items i }
     ensures column { (items : List AnItem) → scan history_after history_outcome no_history items ≡ outcomes_of items }
     ensures tally { (items : List AnItem) → scan latest_after latest_outcome None items ≡ outcomes_of items }
+{}
+
+/// Proves that the samples of some times and the greatest accepted time suffice to keep what is seen of a history through these times, and for
+/// the outcomes of all items. So a column that keeps those samples alone judges each item as one that keeps all.
+pub fn kept_follow_histories()
+    ensures after { (times : ARun) (h : History) (i : AnItem) → kept_after (kept_of times h) i ≡ kept_of times (history_after h i) }
+    ensures outcome { (times : ARun) (h : History) (i : AnItem) → kept_outcome (kept_of times h) i ≡ history_outcome h i }
 {}
 
 /// Proves that what a least valid time leaves of items suffices for those that come later: one that is not expired has the outcome

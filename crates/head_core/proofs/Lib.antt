@@ -15,6 +15,7 @@ pub mod RoomCounts
 pub mod Applied
 pub mod AppliedValues
 pub mod AppliedOutcomes
+pub mod Projected
 mod AppliedWorked
 mod ValidityWorked
 pub mod DraftLemmas

@@ -3,6 +3,7 @@ pub mod Steps
 pub mod Resolved
 pub mod Validity
 pub mod Applied
+pub mod Kept
 pub mod Heads
 pub mod Room
 pub mod Draft

@@ -8,7 +8,9 @@ ghost use Rattle.wal_record.specs.Labels.{same_labels};
 ghost use Rattle.wal_record.specs.Validity.{rewritten, valid, valid_entry};
 ghost use Rattle.head_column.specs.Chunks.{chunks_of};
 ghost use Rattle.head_column.specs.Histories.{history_after, history_outcome, latest, no_history};
+ghost use Rattle.head_column.specs.declared.items.Run.{Run as ARun};
 ghost use Rattle.head_column.specs.Hours.{is_in_hour};
+ghost use Rattle.head_column.specs.Kept.{kept_after, kept_of, kept_outcome};
 ghost use Rattle.head_column.specs.Tallies.{latest_after, latest_outcome};
 ghost use Rattle.head_series.specs.Bindings.{series_of};
 ghost use Rattle.head_series.specs.Table.{IsLeast, Labels, after, labels_at, slot_at};
@@ -23,7 +25,7 @@ ghost use Rattle.head_core.specs.Heads.{history_at};
 ghost use Rattle.head_core.specs.Validity.{HaveFates, IsValidEntry, content_from, entry_from};
 ghost use Rattle.head_core.specs.Applied.{AreCountsOfOutcomes, new_slots, outcomes_after, values_after};
 
-use head_column::{columns_follow_items, tallies_follow_items};
+use head_column::{columns_follow_items, kept_follow_histories, tallies_follow_items};
 use head_series::slot_is_place;
 
 /// What was taken of a log has just one content, as far as any view of a head shows, where the same least valid time is in force. So the
@@ -60,15 +62,21 @@ pub fn alike_answers()
 {}
 
 /// Resolved items, applied in order to one new slot for each series, make the histories of the log's series, and their outcomes make its
-/// counts of outcomes. The counts are the same if only the greatest time of each series is kept (`tallied`).
+/// counts of outcomes. The counts are the same if only the greatest time of each series is kept (`tallied`), or also the samples of some times
+/// (`counted`); then the items make what is seen of the histories through these times (`kept`).
 pub fn items_make_series()
     ensures histories { (es : List Entry) → AreHistoriesOf es (series_of (bindings es)) (map (λ p. p.1) (values_after history_after (new_slots no_history es) (resolved es))) }
     ensures outcomes { (t : Taken) → AreCountsOfOutcomes (outcomes_after history_after history_outcome (new_slots no_history (entries_of t.kept)) (resolved (entries_of t.kept))) (counts_of t) }
     ensures tallied { (t : Taken) →
         AreCountsOfOutcomes (outcomes_after latest_after latest_outcome (new_slots {V = Option ℤ} None (entries_of t.kept)) (resolved (entries_of t.kept))) (counts_of t) }
+    ensures kept { (times : ARun) (es : List Entry) → map (λ p. p.1) (values_after kept_after (new_slots (kept_of times no_history) es) (resolved es)) ≡
+        map (kept_of times) (map (λ p. p.1) (values_after history_after (new_slots no_history es) (resolved es))) }
+    ensures counted { (times : ARun) (t : Taken) →
+        AreCountsOfOutcomes (outcomes_after kept_after kept_outcome (new_slots (kept_of times no_history) (entries_of t.kept)) (resolved (entries_of t.kept))) (counts_of t) }
 {
     // the laws that the proof rests on
     columns_follow_items();
+    kept_follow_histories();
     tallies_follow_items();
 }
 

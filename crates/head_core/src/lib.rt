@@ -14,7 +14,7 @@ mod reserved;
 mod reserving;
 mod views;
 
-pub use head::Head;
+pub use head::{Head, later_of};
 pub use head_column::{Chunk, Column, Hour, Item, Outcome, Run, Sample};
 pub use head_resolver::{
     Changes, CountFull, Counts, HeadFault, Resolver, slots_stay, spread_ahead, spread_records,

@@ -1,2 +1,3 @@
 pub mod TakenLemmas
 pub mod Partial
+pub mod SeenHistories

@@ -57,6 +57,8 @@ mod heads;
 #[cfg(test)]
 mod hours;
 #[cfg(test)]
+mod kept;
+#[cfg(test)]
 mod limits;
 #[cfg(test)]
 mod lines;

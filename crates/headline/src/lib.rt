@@ -11,6 +11,9 @@
 //! **What is behind a damage changes nothing.** [`damage_ends_reading`]: the commands read the files of a directory one after another, and
 //! stop at the first damage. If nobody changes the directory meanwhile, what they have read is what the log of all its files reads as.
 //!
+//! **Samples of some times suffice.** [`times_suffice`]: a replay may keep the samples of some times alone, such as an hour. A log has one such
+//! head, too, which shows of these times what the head with all samples shows, and all else; and what is cut of it is the block of the log.
+//!
 //! **A rescue adds nothing and leaves out nothing that can be read.** [`stretches_read`]: the log that a rescue replays has just the records
 //! of the stretches that are whole in the files of the directory, in order. Clauses `records` and `rescued` of [`however_dealt`]: that log
 //! reads as these records, without damage, and each byte of its blocks is defined by them.
@@ -29,7 +32,9 @@
 mod directories;
 mod laws;
 mod stretches;
+mod times;
 
 pub use directories::damage_ends_reading;
 pub use laws::{checkpoint_equivalence, however_dealt, no_limit, whole_checkpoint_equivalence};
 pub use stretches::stretches_read;
+pub use times::times_suffice;

@@ -3,5 +3,7 @@
 
 mod chunks;
 mod rows;
+mod seen;
 
 pub use rows::{CutRow, end_of, first_of, last_of, rows_in};
+pub use seen::{rows_suffice, times_of};

@@ -5,6 +5,7 @@ use Rattle.std.specs.List.{flat_map}
 use Rattle.std.specs.Option.{option_map}
 use Rattle.wal_record.specs.declared.record.WalRecord.{WalRecord}
 use Rattle.wal_record.specs.declared.record.WalRecord.TheVariants.{Other, Samples, Series, Stones}
+use Rattle.wal_log.specs.declared.reading.Place.{Place}
 use Rattle.wal_log.specs.declared.reading.Placed.{Placed}
 use Rattle.head_resolver.specs.declared.counts.Counts.{Counts}
 use Rattle.head_series.specs.Table.{labels_at}
@@ -20,6 +21,7 @@ use Rattle.answers.specs.declared.requests.Request.{Request}
 use Rattle.answers.specs.declared.requests.Request.TheVariants as asked
 use Rattle.answers.specs.declared.answer.Answer.{Answer}
 use Rattle.answers.specs.Answers.{TellsLog, TellsUpTo}
+use Rattle.answers.specs.Outputs.{MakesText}
 use Rattle.log_directory.specs.Replays.{IsReadingIn, IsReplayIn, IsTallyIn, slots_of}
 use Rattle.answers.specs.Spellings.{SpellsPair, pair_text}
 
@@ -58,10 +60,13 @@ kind_of_record (Samples entries) = (codes "samples", length entries)
 kind_of_record (Stones entries) = (codes "stones", length entries)
 kind_of_record (Other type) = (codes "skipped", 0)
 
--- the place of a record, its kind and its number of entries
+-- the line of a record: its place, its kind and its number of entries
+abbrev pub line_of : Place → List ℕ → ℕ → List ℕ
+line_of place kind count =
+    kind_of_file place.in_checkpoint ++ (32 ∷ (file_number place.file ++ (32 ∷ (decimal place.offset ++ (32 ∷ (kind ++ (32 ∷ (decimal count ++ 10 ∷ []))))))))
+
 abbrev pub record_line : Placed → List ℕ
-record_line p =
-    kind_of_file p.place.in_checkpoint ++ (32 ∷ (file_number p.place.file ++ (32 ∷ (decimal p.place.offset ++ (32 ∷ ((kind_of_record p.content).0 ++ (32 ∷ (decimal (kind_of_record p.content).1 ++ 10 ∷ []))))))))
+record_line p = line_of p.place (kind_of_record p.content).0 (kind_of_record p.content).1
 
 -- the text has a line for each record of the log in a directory, in this form, in order, and one for what is wrong with it
 pub record IsRecordsText (form : LogForm) (view : View) (dir : List ℕ) (told : Option Flaw) (text : List ℕ) : Type 0 where
@@ -86,8 +91,8 @@ pub record IsSeriesText (form : LogForm) (view : View) (dir : List ℕ) (word : 
 
 -- ---- answers
 
--- the answer of each request
-abbrev pub Prints : View → Request → Answer → Type 0
-Prints view (asked.Replay dir form options) answer = TellsLog (IsCountsText form view dir.now options.min_valid) answer
-Prints view (asked.Records dir form) answer = TellsLog (IsRecordsText form view dir.now) answer
-Prints view (asked.Series dir form pair options) answer = TellsUpTo (IsSeriesText form view dir.now (option_map (λ w. w.now) pair) options.min_valid) answer
+-- the answer of each request: some of the text may be printed meanwhile, and the answer has the rest
+abbrev pub Prints : {O : Type 0} → (O → List ℕ → O → Type 0) → O → O → View → Request → Answer → Type 0
+Prints printed old new view (asked.Replay dir form options) answer = TellsLog (λ told rest. MakesText printed old new rest (IsCountsText form view dir.now options.min_valid told)) answer
+Prints printed old new view (asked.Records dir form) answer = TellsLog (λ told rest. MakesText printed old new rest (IsRecordsText form view dir.now told)) answer
+Prints printed old new view (asked.Series dir form pair options) answer = TellsUpTo (λ told rest. MakesText printed old new rest (IsSeriesText form view dir.now (option_map (λ w. w.now) pair) options.min_valid told)) answer

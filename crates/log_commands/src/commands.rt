@@ -5,20 +5,21 @@ ghost use Rattle.std.specs.List.{flat_map};
 ghost use Rattle.std.specs.Option.{option_map};
 ghost use Rattle.answers.specs.Faults.{TellsDamage, TellsNoDamage};
 ghost use Rattle.store.specs.Views.{view_of};
-ghost use Rattle.answers.specs.Answers.{TellsLog, TellsUpTo, fault_of};
+ghost use Rattle.answers.specs.Answers.{TellsLog, TellsUpTo};
+ghost use Rattle.answers.specs.Outputs.{MakesText};
 ghost use Rattle.log_commands.specs.Printed.{IsCountsText, IsRecordsText, IsSeriesText, Prints, counts_text, damage_line, record_line, series_line};
 ghost use Rattle.log_directory.specs.Replays.{slots_of};
 
-use crate::report::{counts_text, push_damage, records_text, series_text};
-use answers::{Answer, Fault, Flaw, LogForm, Pair, Request, Status, pair_of};
+use crate::record_lines::RecordLines;
+use crate::report::{counts_text, push_damage, series_text};
+use answers::{Answer, Fault, Flaw, LogForm, Output, Pair, Request, pair_of};
 use head_replay::Options;
-use log_directory::{ReplayedLog, TalliedLog, flaw_of, read_source, replay_in, slots_of, tally_in};
+use log_directory::{ReplayedLog, TalliedLog, replay_in, slots_of, take_records_in, tally_in};
 use progress::Progress;
 use std::alloc::Global;
 use std::sync::Wait;
 use std::thread::Threads;
-use store::{PartStore, Store};
-use wal_log::{Placed, read_all};
+use store::PartStore;
 
 // Prints the counts of a log, one a line.
 fn counted(alloc: Global, tallied: &TalliedLog) -> Result<Answer, Fault>
@@ -48,23 +49,37 @@ where
     counted(alloc, &tallied)
 }
 
-// Prints the records of a log, one a line, and what is wrong with the log.
-fn listed(alloc: Global, records: &[Placed], flaw: Option<Flaw>) -> Result<Answer, Fault>
+// Ends the lines of a log's records with what is wrong with the log.
+fn listed(lines: String, flaw: Option<Flaw>) -> Result<Answer, Fault>
     ensures { MatchResult result
-        (TellsLog (λ told text. (flaw ≡ told) × (text ≡ flat_map record_line records.now ++ damage_line flaw))) TellsNoDamage }
+        (TellsLog (λ told rest. (flaw ≡ told) × (rest ≡ string_bytes lines ++ damage_line flaw))) TellsNoDamage }
 {
-    let mut text = records_text(alloc, records)?;
+    let mut text = lines;
     push_damage(&mut text, flaw)?;
     Ok(Answer::told(text, flaw))
 }
 
-fn records<S: Store>(alloc: Global, store: &S, dir: &str, form: LogForm) -> Result<Answer, Fault>
-    ensures { MatchResult result (TellsLog (IsRecordsText form (view_of (S.holds store.now)) dir.now)) TellsNoDamage }
+// Prints the records of a log, one a line, and what is wrong with the log. Also returns the output.
+fn records<S: PartStore, O: Output>(
+    alloc: Global,
+    store: &S,
+    out: O,
+    dir: &str,
+    form: LogForm,
+) -> (Result<Answer, Fault>, O)
+    ensures { MatchResult result.0 (TellsLog (λ told rest. MakesText O.printed out result.1 rest (IsRecordsText form (view_of (S.holds store.now)) dir.now told))) TellsNoDamage }
 {
-    let source = read_source(alloc, store, dir, form)?;
-    let reading = read_all(alloc, &source.log)?;
-    let flaw = flaw_of(source.flaw, reading.damage);
-    listed(alloc, reading.records.as_slice(), flaw)
+    let mut lines = RecordLines::new(alloc, out);
+    match take_records_in(alloc, store, dir, form, &mut lines) {
+        Ok(flaw) => {
+            let RecordLines { out, text } = lines;
+            (listed(text, flaw), out)
+        }
+        Err(fault) => {
+            let RecordLines { out, text: _text } = lines;
+            (Err(fault), out)
+        }
+    }
 }
 
 // Prints the series of a replayed log, or those that have this label, one a line.
@@ -99,49 +114,54 @@ where
     selected(alloc, &replayed, &pair)
 }
 
-fn execute<R: Threads + Wait + Sync, S: PartStore + Sync, P: Progress + Sync>(
+fn execute<R: Threads + Wait + Sync, S: PartStore + Sync, P: Progress + Sync, O: Output>(
     rt: &R,
     alloc: Global,
     store: &S,
     progress: &P,
+    out: O,
     request: Request<'_>,
-) -> Result<Answer, Fault>
+) -> (Result<Answer, Fault>, O)
 where
     S::Reader: Send,
     S::Writer: Send,
-    ensures { MatchResult result (Prints (view_of (S.holds store.now)) request.entry) TellsNoDamage }
+    ensures { MatchResult result.0 (Prints O.printed out result.1 (view_of (S.holds store.now)) request.entry) TellsNoDamage }
 {
     match request {
         Request::Replay { dir, form, options } => {
-            replay(rt, alloc, store, progress, dir, form, &options)
+            let answer = replay(rt, alloc, store, progress, dir, form, &options);
+            (answer, out)
         }
-        Request::Records { dir, form } => records(alloc, store, dir, form),
+        Request::Records { dir, form } => records(alloc, store, out, dir, form),
         Request::Series {
             dir,
             form,
             pair,
             options,
-        } => series(rt, alloc, store, progress, dir, form, pair, &options),
+        } => {
+            let answer = series(rt, alloc, store, progress, dir, form, pair, &options);
+            (answer, out)
+        }
     }
 }
 
 /// Carries out a request, which changes nothing in the store: prints what the log in a directory holds, in the form that is asked for, up to its
-/// damage if it is damaged.
-/// `progress` hears how far a replay is.
-pub fn carry_out_log_request<R: Threads + Wait + Sync, S: PartStore + Sync, P: Progress + Sync>(
-    rt: &R,
-    alloc: Global,
-    store: &S,
-    progress: &P,
-    request: Request<'_>,
-) -> Answer
+/// damage if it is damaged. `progress` hears how far a replay is. The records of a log are printed on `out` while they are read, and the answer has
+/// the rest of the text. Also returns the output.
+pub fn carry_out_log_request<
+    R: Threads + Wait + Sync,
+    S: PartStore + Sync,
+    P: Progress + Sync,
+    O: Output,
+>(rt: &R, alloc: Global, store: &S, progress: &P, out: O, request: Request<'_>) -> (Answer, O)
 where
     S::Reader: Send,
     S::Writer: Send,
-    ensures printed { Prints (view_of (S.holds store.now)) request.entry result }
+    ensures printed { Prints O.printed out result.1 (view_of (S.holds store.now)) request.entry result.0 }
 {
-    match execute(rt, alloc, store, progress, request) {
-        Ok(answer) => answer,
-        Err(fault) => Answer::failed(alloc, fault),
+    let (answer, out) = execute(rt, alloc, store, progress, out, request);
+    match answer {
+        Ok(answer) => (answer, out),
+        Err(fault) => (Answer::failed(alloc, fault), out),
     }
 }

@@ -2,6 +2,7 @@
 #![tactic(auto)]
 
 mod commands;
+mod record_lines;
 mod report;
 
 pub use commands::carry_out_log_request;

@@ -5,14 +5,12 @@ ghost use Rattle.std.specs.List.{flat_map};
 ghost use Rattle.head_core.specs.Heads.{AreSlots};
 ghost use Rattle.head_series.specs.Table.{labels_at};
 ghost use Rattle.answers.specs.Lines.{number_line};
-ghost use Rattle.log_commands.specs.Printed.{counts_text, damage_line, kind_of_record, record_line, series_line};
+ghost use Rattle.log_commands.specs.Printed.{counts_text, damage_line, series_line};
 ghost use Rattle.answers.specs.Spellings.{pair_text};
 
-use answers::{DamageLine, FileNumber, Flaw, kind_of_file, push_numbers, push_pair};
+use answers::{DamageLine, Flaw, push_numbers, push_pair};
 use head_core::{Counts, Head, Slot};
 use std::alloc::{AllocError, Global};
-use wal_log::{Place, Placed};
-use wal_record::WalRecord;
 
 /// Returns a line for each count of a log, and one for its number of series.
 pub fn counts_text(alloc: Global, counts: &Counts, series: u64) -> Result<String, AllocError>
@@ -38,39 +36,6 @@ pub fn counts_text(alloc: Global, counts: &Counts, series: u64) -> Result<String
             ("expired_stones", counts.expired_stones),
         ],
     )?;
-    Ok(text)
-}
-
-// Returns the kind of a record as it is printed, and its number of entries.
-fn kind_of_record(record: &WalRecord) -> (&'static str, usize)
-    ensures kind { result.0.now ≡ (kind_of_record record.now).0 }
-    ensures count { result.1 ≡ (kind_of_record record.now).1 }
-{
-    match record {
-        WalRecord::Series(entries) => ("series", entries.len()),
-        WalRecord::Samples(entries) => ("samples", entries.len()),
-        WalRecord::Stones(entries) => ("stones", entries.len()),
-        WalRecord::Other(_) => ("skipped", 0),
-    }
-}
-
-fn push_record(text: &mut String, record: &Placed) -> Result<(), AllocError>
-    ensures { OnOk result (string_bytes text.new ≡ string_bytes text.old ++ record_line record.now) }
-{
-    let Place { file, offset, .. } = record.place;
-    let (kind, count) = kind_of_record(&record.content);
-    let (of, file) = (kind_of_file(record.place), FileNumber(file));
-    writeln!(text, "{of} {file} {offset} {kind} {count}")
-}
-
-/// Returns a line for each record: its place, its kind and its number of entries.
-pub fn records_text(alloc: Global, records: &[Placed]) -> Result<String, AllocError>
-    ensures { IfOk result (λ text. string_bytes text ≡ flat_map record_line records.now) }
-{
-    let mut text = String::new(alloc);
-    for record in records {
-        push_record(&mut text, record)?;
-    }
     Ok(text)
 }
 

@@ -2,22 +2,33 @@
 
 ghost use Rattle.std.specs.Prelude.{◌≡◌, false, IfOk, None, OnOk};
 ghost use Rattle.wal_log.specs.Inputs.{Files};
-ghost use Rattle.head_serial.specs.Replays.{IsReplayed};
+ghost use Rattle.head_serial.specs.Replays.{IsReplayed, IsReplayedAt};
 ghost use Rattle.log_directory.specs.Sources.{IsSourceIn};
 ghost use Rattle.store.specs.Views.{view_of};
 ghost use Rattle.answers.specs.Answers.{IsNoDamage};
 
+use crate::kept::{replay_log_at, replay_parts_at};
 use crate::replaying::replay_parts;
 use crate::source::{Source, read_source};
 use answers::{DamageLine, Fault, Flaw, LogForm};
 use head_core::Head;
-use head_replay::{Options, replay};
+use head_replay::{Options, Run, replay};
 use progress::{Progress, extent_of};
 use std::alloc::Global;
 use std::sync::Wait;
 use std::thread::Threads;
 use store::{PartStore, Store};
-use wal_log::Input;
+use wal_log::{Damage, Input};
+
+// Returns `Damage` if a log is damaged.
+fn check_whole(damage: Option<Damage>) -> Result<(), Fault>
+    ensures { OnOk result (damage ≡ None) }
+{
+    match damage {
+        None => Ok(()),
+        Some(damage) => Err(Fault::Damage(DamageLine(damage))),
+    }
+}
 
 /// Replays a log to its head, and drops the log. Returns `Damage` if the log is damaged.
 pub fn undamaged_head<R: Threads + Wait + Sync, P: Progress + Sync>(
@@ -34,10 +45,8 @@ pub fn undamaged_head<R: Threads + Wait + Sync, P: Progress + Sync>(
     let replayed = replay(rt, alloc, &log, options, progress);
     progress.end();
     let replayed = replayed?;
-    match replayed.damage {
-        None => Ok(replayed.head),
-        Some(damage) => Err(Fault::Damage(DamageLine(damage))),
-    }
+    check_whole(replayed.damage)?;
+    Ok(replayed.head)
 }
 
 // Returns `Damage` if a log was read up to damage. One of which parts are lost is not refused.
@@ -91,6 +100,65 @@ fn undamaged_read<R: Threads + Wait + Sync, S: Store, P: Progress + Sync>(
     Ok(UndamagedLog { head, flaw })
 }
 
+// Replays the log in a directory, in this form, which is read before, to the head that keeps the samples of these times.
+fn undamaged_read_at<R: Threads + Wait + Sync, S: Store, P: Progress + Sync>(
+    rt: &R,
+    alloc: Global,
+    store: &S,
+    progress: &P,
+    dir: &str,
+    form: LogForm,
+    options: &Options,
+    times: Run,
+) -> Result<UndamagedLog, Fault>
+    ensures content { IfOk result (λ r. (log : Files) × IsSourceIn form (view_of (S.holds store.now)) dir.now log r.flaw × IsReplayedAt times log options.now.min_valid None r.head.content) }
+    ensures unhurt { IfOk result (λ r. IsNoDamage r.flaw) }
+    ensures sound { IfOk result (λ r. r.head.failed ≡ false) }
+{
+    let Source { log, flaw } = undamaged_source(alloc, store, dir, form)?;
+    let replayed = replay_log_at(rt, alloc, progress, &log, options, times)?;
+    check_whole(replayed.damage)?;
+    Ok(UndamagedLog {
+        head: replayed.head,
+        flaw,
+    })
+}
+
+/// Replays the log in a directory, in this form, to the head that keeps the samples of these times alone. All samples are judged and counted as if
+/// all were kept. It is read as by [`replay_in`](crate::replay_in). Returns `Damage` if the log is damaged. One of which parts are lost is not
+/// refused.
+pub fn undamaged_at<R: Threads + Wait + Sync, S: PartStore + Sync, P: Progress + Sync>(
+    rt: &R,
+    alloc: Global,
+    store: &S,
+    progress: &P,
+    dir: &str,
+    form: LogForm,
+    options: &Options,
+    times: Run,
+) -> Result<UndamagedLog, Fault>
+where
+    S::Reader: Send,
+    S::Writer: Send,
+    ensures content { IfOk result (λ r. (log : Files) × IsSourceIn form (view_of (S.holds store.now)) dir.now log r.flaw × IsReplayedAt times log options.now.min_valid None r.head.content) }
+    ensures unhurt { IfOk result (λ r. IsNoDamage r.flaw) }
+    ensures sound { IfOk result (λ r. r.head.failed ≡ false) }
+{
+    match form {
+        LogForm::Plain => {
+            let replayed = replay_parts_at(rt, alloc, store, progress, dir, options, times)?;
+            check_whole(replayed.damage)?;
+            Ok(UndamagedLog {
+                head: replayed.head,
+                flaw: None,
+            })
+        }
+        LogForm::Unpacked | LogForm::PastDamage => {
+            undamaged_read_at(rt, alloc, store, progress, dir, form, options, times)
+        }
+    }
+}
+
 /// Replays the log in a directory, in this form, to its head. It is read as by [`replay_in`](crate::replay_in). Returns `Damage` if the log is
 /// damaged. One of which parts are lost is not refused.
 pub fn undamaged_in<R: Threads + Wait + Sync, S: PartStore + Sync, P: Progress + Sync>(
@@ -112,13 +180,11 @@ where
     match form {
         LogForm::Plain => {
             let replayed = replay_parts(rt, alloc, store, progress, dir, options)?;
-            match replayed.damage {
-                None => Ok(UndamagedLog {
-                    head: replayed.head,
-                    flaw: None,
-                }),
-                Some(damage) => Err(Fault::Damage(DamageLine(damage))),
-            }
+            check_whole(replayed.damage)?;
+            Ok(UndamagedLog {
+                head: replayed.head,
+                flaw: None,
+            })
         }
         LogForm::Unpacked | LogForm::PastDamage => {
             undamaged_read(rt, alloc, store, progress, dir, form, options)

@@ -4,9 +4,11 @@
 
 mod naming;
 mod program;
+mod standard;
 
 use crate::program::run;
-use answers::{Answer, LineFault, Status};
+use crate::standard::Standard;
+use answers::{Answer, LineFault, Output, Status};
 use progress::Meter;
 use std::env;
 use std::io::{ErrorKind, IsTerminal};
@@ -60,27 +62,43 @@ fn show<R: Print + Eprint>(rt: &R, answer: &Answer, is_terminal: bool) -> Status
 }
 
 // Runs the program over a store. `is_terminal` says whether standard error is a terminal, and `bars` whether standard output is one.
-fn run_here<R, S: PartStore + Sync>(
+fn run_here<R, S: PartStore + Sync, O: Output + Drop>(
     rt: &R,
     store: &mut S,
+    out: O,
     is_terminal: bool,
     bars: bool,
-) -> Result<Answer, LineFault>
+) -> Result<(Answer, O), LineFault>
 where
     S::Reader: Send,
     S::Writer: Send,
     R: Env + Clock + RandomSource + Eprint + AllocGlobal + Threads + Wait + Sync + Drop,
 {
     let words = arguments(rt)?;
-    run(rt, store, &Meter::new(rt, is_terminal), &words, bars)
+    run(rt, store, &Meter::new(rt, is_terminal), out, &words, bars)
+}
+
+// Prints what is left to be printed, and returns the exit status. A reader that has enough and closes its end is no fault.
+fn end<R: Print + Eprint>(
+    rt: &R,
+    ran: Result<(Answer, Standard<'_, R>), LineFault>,
+    is_terminal: bool,
+) -> Status {
+    match ran {
+        Ok((answer, out)) => {
+            if out.is_closed() {
+                return Status::Done;
+            }
+            show(rt, &answer, is_terminal)
+        }
+        Err(fault) => refuse(rt, &fault),
+    }
 }
 
 fn main(rt: HostRuntime) -> ExitCode {
     let is_terminal = rt.stderr().is_terminal();
     let bars = rt.stdout().is_terminal();
-    let status = match run_here(&rt, &mut Disk::new(&rt), is_terminal, bars) {
-        Ok(answer) => show(&rt, &answer, is_terminal),
-        Err(fault) => refuse(&rt, &fault),
-    };
-    status.into()
+    let out = Standard::new(&rt);
+    let ran = run_here(&rt, &mut Disk::new(&rt), out, is_terminal, bars);
+    end(&rt, ran, is_terminal).into()
 }

@@ -5,7 +5,7 @@ ghost use Rattle.store.specs.Views.{view_of};
 ghost use Rattle.prom_head.specs.Asking.{GivesLeast, IsAskedIn};
 
 use crate::naming::name_of;
-use answers::{AnalyzeRequest, Answer, Fault, LineFault, Status};
+use answers::{AnalyzeRequest, Answer, Fault, LineFault, Output, Status};
 use block_commands::carry_out_block;
 use command_line::{Asked, CommandLine, parse};
 use inspect_command::carry_out_inspect;
@@ -24,27 +24,31 @@ use store::{PartStore, Store};
 use unpack_command::carry_out_unpack;
 use write_commands::{carry_out_append, carry_out_checkpoint};
 
-// Carries out what a command line asks for.
-fn carried_out<R: AllocGlobal + Threads + Wait + Sync, S: PartStore + Sync, P: Progress + Sync>(
+// Carries out what a command line asks for. Also returns the output.
+fn carried_out<R, S: PartStore + Sync, P: Progress + Sync, O: Output + Drop>(
     rt: &R,
     store: &mut S,
     progress: &P,
+    out: O,
     asked: Asked<'_>,
     bars: bool,
-) -> Answer
+) -> (Answer, O)
 where
     S::Reader: Send,
     S::Writer: Send,
+    R: AllocGlobal + Threads + Wait + Sync,
 {
     let alloc = rt.alloc();
-    match asked {
-        Asked::OfLog(request) => carry_out_log_request(rt, alloc, store, progress, request),
+    let answer = match asked {
+        Asked::OfLog(request) => {
+            return carry_out_log_request(rt, alloc, store, progress, out, request);
+        }
+        Asked::Dump(request) => return carry_out_dump(rt, alloc, store, progress, out, request),
         Asked::Inspect(request) => carry_out_inspect(alloc, store, request),
         Asked::Analyze(request) => {
             let request = AnalyzeRequest { bars, ..request };
             carry_out_analyze(rt, alloc, store, progress, request)
         }
-        Asked::Dump(request) => carry_out_dump(rt, alloc, store, progress, request),
         Asked::OfBlocks(request) => carry_out_block(rt, alloc, store, progress, request),
         Asked::Blocks(request) => carry_out_blocks(rt, alloc, store, progress, request),
         Asked::Rescue(request) => carry_out_rescue(rt, alloc, store, progress, request),
@@ -54,7 +58,8 @@ where
         }
         Asked::Checkpoint(request) => carry_out_checkpoint(alloc, store, request),
         Asked::Unpack(request) => carry_out_unpack(alloc, store, request),
-    }
+    };
+    (answer, out)
 }
 
 // Returns the least valid time that the blocks of a data directory give, if a command line has one. Those next to a log give none if they cannot
@@ -92,39 +97,42 @@ fn asked_in<'a, S: Store>(
 }
 
 // Carries out what a command line asks for. Where no least valid time is found, nothing is.
-fn carried_out_in<R: AllocGlobal + Threads + Wait + Sync, S: PartStore + Sync, P: Progress + Sync>(
+fn carried_out_in<R, S: PartStore + Sync, P: Progress + Sync, O: Output + Drop>(
     rt: &R,
     store: &mut S,
     progress: &P,
+    out: O,
     line: CommandLine<'_>,
     bars: bool,
-) -> Answer
+) -> (Answer, O)
 where
     S::Reader: Send,
     S::Writer: Send,
+    R: AllocGlobal + Threads + Wait + Sync,
 {
     match asked_in(rt.alloc(), store, line) {
-        Ok(asked) => carried_out(rt, store, progress, asked, bars),
-        Err(fault) => Answer::failed(rt.alloc(), fault),
+        Ok(asked) => carried_out(rt, store, progress, out, asked, bars),
+        Err(fault) => (Answer::failed(rt.alloc(), fault), out),
     }
 }
 
 // Carries out what a command line asks for, with a name that is made for the block where one is wanted. Where the system gives no time or no
 // random bits, the block has no name, and `cut` refuses it.
-fn carried_out_by_name<R, S: PartStore + Sync, P: Progress + Sync>(
+fn carried_out_by_name<R, S: PartStore + Sync, P: Progress + Sync, O: Output + Drop>(
     rt: &R,
     store: &mut S,
     progress: &P,
+    out: O,
     line: CommandLine<'_>,
     bars: bool,
-) -> Result<Answer, LineFault>
+) -> Result<(Answer, O), LineFault>
 where
     S::Reader: Send,
     S::Writer: Send,
     R: AllocGlobal + Clock + RandomSource + Threads + Wait + Sync,
 {
     if !line.asked.lacks_name() {
-        return Ok(carried_out_in(rt, store, progress, line, bars));
+        return Ok(carried_out_in(rt, store, progress, out, line, bars));
     }
     let name = match name_of(rt, rt.alloc())? {
         Some(name) => name,
@@ -134,18 +142,20 @@ where
         asked: line.asked.named(&name),
         ..line
     };
-    Ok(carried_out_in(rt, store, progress, line, bars))
+    Ok(carried_out_in(rt, store, progress, out, line, bars))
 }
 
-/// Runs the program over a store. The first word is the program's name. `progress` hears how far a replay is. `bars` says whether shares
-/// are also printed as bars. Where the words are refused, the store is not called.
-pub fn run<R, S: PartStore + Sync, P: Progress + Sync>(
+/// Runs the program over a store. The first word is the program's name. `progress` hears how far a replay is. Long texts are printed on `out`
+/// while they are made, and the answer has the rest; also returns the output. `bars` says whether shares are also printed as bars. Where the words
+/// are refused, the store is not called.
+pub fn run<R, S: PartStore + Sync, P: Progress + Sync, O: Output + Drop>(
     rt: &R,
     store: &mut S,
     progress: &P,
+    out: O,
     words: &[String],
     bars: bool,
-) -> Result<Answer, LineFault>
+) -> Result<(Answer, O), LineFault>
 where
     S::Reader: Send,
     S::Writer: Send,
@@ -153,8 +163,11 @@ where
 {
     let alloc = rt.alloc();
     match parse(alloc, words) {
-        Ok(line) => carried_out_by_name(rt, store, progress, line, bars),
+        Ok(line) => carried_out_by_name(rt, store, progress, out, line, bars),
         Err(error) if error.use_stderr() => Err(LineFault::from(error)),
-        Err(help) => Ok(Answer::done(help.to_string(alloc)?, Status::Done)),
+        Err(help) => {
+            let answer = Answer::done(help.to_string(alloc)?, Status::Done);
+            Ok((answer, out))
+        }
     }
 }

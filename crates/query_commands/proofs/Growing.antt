@@ -10,7 +10,8 @@ use Rattle.wal_record.specs.declared.labels.Label.{Label}
 use Rattle.wal_record.specs.Labels.{Labels}
 use Rattle.answers.specs.Spellings.{pair_text}
 use Rattle.head_column.specs.declared.items.Sample.{Sample}
-use Rattle.query_commands.specs.Dumps.{AppendsLine, AppendsLines, AppendsValue, IsLine, labelled, labels_text}
+use Rattle.answers.specs.Outputs.{IsMade}
+use Rattle.query_commands.specs.Dumps.{AppendsLine, AppendsValue, IsLine, MakesLines, labelled, labels_text}
 
 -- ---- a line
 
@@ -41,31 +42,41 @@ both_zipped R [] ys (u ∷ us) vs h k = absurd h
 both_zipped R (x ∷ xs) ys [] vs h k = absurd h
 both_zipped R (x ∷ xs) ys (u ∷ us) vs h k = (h.0, both_zipped R xs ys us vs h.1 k)
 
-pub lines_joined : (floats : Bool) (ps qs : List (List ℕ × Sample)) (a b c : List ℕ) → AppendsLines floats ps a b → AppendsLines floats qs b c → AppendsLines floats (ps ++ qs) a c
-lines_joined floats ps qs a b c h k =
-    let flat : List (List ℕ) → List ℕ = λ lines. flat_map (λ line. line) lines in
-    record {
-      lines = h.lines ++ k.lines;
-      each = both_zipped (λ p line. IsLine floats p.0 p.1 line) ps qs h.lines k.lines h.each k.each;
-      is =
-          k.is ∙ ap (λ (t : List ℕ). t ++ flat k.lines) h.is ∙ append_assoc a (flat h.lines) (flat k.lines)
-          ∙ ap (λ (t : List ℕ). a ++ t) (sym (flat_map-append (λ (line : List ℕ). line) h.lines k.lines));
-    }
+module _ {O : Type 0} (printed : O → List ℕ → O → Type 0) (floats : Bool) where
+  pub makes_none : (out : O) (text : List ℕ) → MakesLines printed floats [] out text out text
+  makes_none out text = record { lines = []; each = tt; made = λ first all h. subst (IsMade printed first out text) (sym (append-nil all)) h }
 
-pub no_lines : (floats : Bool) (a : List ℕ) → AppendsLines floats [] a a
-no_lines floats a = record { lines = []; each = tt; is = sym (append-nil a) }
+  pub makes_both : (ps qs : List (List ℕ × Sample)) (old between new : O) (waiting middle rest : List ℕ) → MakesLines printed floats ps old waiting between middle → MakesLines printed floats qs between middle new rest
+      → MakesLines printed floats (ps ++ qs) old waiting new rest
+  makes_both ps qs old between new waiting middle rest h k =
+      let flat : List (List ℕ) → List ℕ = λ lines. flat_map (λ line. line) lines in
+      record {
+        lines = h.lines ++ k.lines;
+        each = both_zipped (λ p line. IsLine floats p.0 p.1 line) ps qs h.lines k.lines h.each k.each;
+        made = λ first all made. subst (IsMade printed first new rest)
+            (append_assoc all (flat h.lines) (flat k.lines) ∙ ap (λ (t : List ℕ). all ++ t) (sym (flat_map-append (λ (line : List ℕ). line) h.lines k.lines)))
+            (k.made first (all ++ flat h.lines) (h.made first all made));
+      }
 
-one_line : (floats : Bool) (labels : List ℕ) (s : Sample) (a b : List ℕ) → AppendsLine floats labels s a b → AppendsLines floats ((labels, s) ∷ []) a b
-one_line floats labels s a b h = record { lines = h.line ∷ []; each = (h.of, tt); is = h.is ∙ ap (λ (t : List ℕ). a ++ t) (sym (append-nil h.line)) }
+  -- the line of a sample is appended to what waits, and then some of it may be printed
+  pub makes_line : (labels : List ℕ) (s : Sample) (old new : O) (waiting longer rest : List ℕ) → AppendsLine floats labels s waiting longer
+      → ((first : O) (all : List ℕ) → IsMade printed first old longer all → IsMade printed first new rest all) → MakesLines printed floats ((labels, s) ∷ []) old waiting new rest
+  makes_line labels s old new waiting longer rest h on = record {
+    lines = h.line ∷ [];
+    each = (h.of, tt);
+    made = λ first all (before, was, is). on first (all ++ (h.line ++ []))
+        (before, was, ap (λ (t : List ℕ). all ++ t) (append-nil h.line) ∙ ap (λ (t : List ℕ). t ++ h.line) is ∙ append_assoc before waiting h.line ∙ ap (λ (t : List ℕ). before ++ t) (sym h.is));
+  }
 
--- the line of the next sample
-pub samples_more : (floats : Bool) (labels : List ℕ) (samples : List Sample) (i : ℕ) (d : Sample) (a b c : List ℕ) → i < length samples
-    → AppendsLines floats (labelled labels (take i samples)) a b → AppendsLine floats labels (get_or samples i d) b c → AppendsLines floats (labelled labels (take (i + 1) samples)) a c
-samples_more floats labels samples i d a b c lt h k =
-    let f : Sample → List ℕ × Sample = λ s. (labels, s) in
-    let next : labelled labels (take (i + 1) samples) ≡ labelled labels (take i samples) ++ (labels, get_or samples i d) ∷ [] = ap (labelled labels) (take_more samples i d lt) ∙ map-append f (take i samples) (get_or samples i d ∷ []) in
-    subst (λ (ps : List (List ℕ × Sample)). AppendsLines floats ps a c) (sym next)
-    (lines_joined floats (labelled labels (take i samples)) ((labels, get_or samples i d) ∷ []) a b c h (one_line floats labels (get_or samples i d) b c k))
+  -- the line of the next sample
+  pub samples_more : (labels : List ℕ) (samples : List Sample) (i : ℕ) (d : Sample) (old between new : O) (waiting middle rest : List ℕ) → i < length samples
+      → MakesLines printed floats (labelled labels (take i samples)) old waiting between middle → MakesLines printed floats ((labels, get_or samples i d) ∷ []) between middle new rest
+      → MakesLines printed floats (labelled labels (take (i + 1) samples)) old waiting new rest
+  samples_more labels samples i d old between new waiting middle rest lt h k =
+      let f : Sample → List ℕ × Sample = λ s. (labels, s) in
+      let next : labelled labels (take (i + 1) samples) ≡ labelled labels (take i samples) ++ (labels, get_or samples i d) ∷ [] = ap (labelled labels) (take_more samples i d lt) ∙ map-append f (take i samples) (get_or samples i d ∷ []) in
+      subst (λ (ps : List (List ℕ × Sample)). MakesLines printed floats ps old waiting new rest) (sym next)
+      (makes_both (labelled labels (take i samples)) ((labels, get_or samples i d) ∷ []) old between new waiting middle rest h k)
 
 -- ---- labels
 

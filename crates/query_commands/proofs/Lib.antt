@@ -2,3 +2,4 @@ pub mod Dumped
 pub mod Growing
 pub mod RunSearch
 pub mod Requested
+pub mod SeenDump

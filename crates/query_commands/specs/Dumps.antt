@@ -8,6 +8,7 @@ use Rattle.head_column.specs.declared.items.Sample.{Sample}
 use Rattle.head_core.specs.Content.{Content}
 use Rattle.head_core.specs.Heads.{history_at}
 use Rattle.head_series.specs.Table.{labels_at}
+use Rattle.answers.specs.Outputs.{IsMade}
 use Rattle.answers.specs.Spellings.{pair_text}
 use Rattle.query_commands.specs.declared.selection.Selection.{Selection}
 use Rattle.query_commands.specs.Selections.{shown_of}
@@ -44,6 +45,12 @@ pub record AppendsLines (floats : Bool) (samples : List (List ℕ × Sample)) (o
   pub lines : List (List ℕ)
   pub each : AllZip (λ p line. IsLine floats p.0 p.1 line) samples lines
   pub is : new ≡ old ++ flat_map (λ line. line) lines
+
+-- A line for each of these samples, each with the text of its labels, was made behind what was made before: printed meanwhile, or it waits.
+pub record MakesLines {O : Type 0} (printed : O → List ℕ → O → Type 0) (floats : Bool) (samples : List (List ℕ × Sample)) (old : O) (waiting : List ℕ) (new : O) (rest : List ℕ) : Type 0 where
+  pub lines : List (List ℕ)
+  pub each : AllZip (λ p line. IsLine floats p.0 p.1 line) samples lines
+  pub made : (first : O) (all : List ℕ) → IsMade printed first old waiting all → IsMade printed first new rest (all ++ flat_map (λ line. line) lines)
 
 -- samples, each with the text of the labels of their series
 abbrev pub labelled : List ℕ → List Sample → List (List ℕ × Sample)

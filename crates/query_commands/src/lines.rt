@@ -1,13 +1,14 @@
 //! The text of a dump.
 
-ghost use Rattle.std.specs.Prelude.{◌≡◌, ◌<◌, ◌++◌, IfOk, OnOk, false, length, string_bytes};
+ghost use Rattle.std.specs.Prelude.{◌≡◌, ◌<◌, ◌∷◌, [], IfOk, OnOk, false, length, string_bytes};
 ghost use Rattle.head_core.specs.Heads.{AreSlots, history_at};
 ghost use Rattle.head_series.specs.Table.{labels_at};
-ghost use Rattle.query_commands.specs.Dumps.{AppendsLine, AppendsLines, AppendsValue, IsDump, labelled, labels_text};
+ghost use Rattle.answers.specs.Outputs.{MakesText};
+ghost use Rattle.query_commands.specs.Dumps.{AppendsLine, AppendsValue, IsDump, MakesLines, labelled, labels_text};
 ghost use Rattle.query_commands.specs.Selections.{shown_of};
 
 use crate::selection::{Selection, shown_samples};
-use answers::push_pair;
+use answers::{Output, PrintFault, print_long, push_pair};
 use float_text::push_float;
 use head_column::Sample;
 use head_core::{Head, Slot};
@@ -55,57 +56,75 @@ fn push_line(
     text.push('\n')
 }
 
-// Appends a line for each sample, after the labels of their series.
-fn push_samples(
+// Prints the line of a sample, after the labels of its series, or appends it to the text that waits to be printed.
+fn print_line<O: Output>(
+    out: &mut O,
+    text: &mut String,
+    labels: &str,
+    sample: &Sample,
+    floats: bool,
+) -> Result<(), PrintFault>
+    ensures { OnOk result (MakesLines O.printed floats ((labels.now, sample.now) ∷ []) out.old (string_bytes text.old) out.new (string_bytes text.new)) }
+{
+    push_line(text, labels, sample, floats)?;
+    print_long(out, text)?;
+    Ok(())
+}
+
+// Prints a line for each sample, after the labels of their series.
+fn print_samples<O: Output>(
+    out: &mut O,
     text: &mut String,
     labels: &str,
     samples: &[Sample],
     floats: bool,
-) -> Result<(), AllocError>
-    ensures { OnOk result (AppendsLines floats (labelled labels.now samples.now) (string_bytes text.old) (string_bytes text.new)) }
+) -> Result<(), PrintFault>
+    ensures { OnOk result (MakesLines O.printed floats (labelled labels.now samples.now) out.old (string_bytes text.old) out.new (string_bytes text.new)) }
 {
     for sample in samples {
-        push_line(text, labels, sample, floats)?;
+        print_line(out, text, labels, sample, floats)?;
     }
     Ok(())
 }
 
-// Appends a line for each sample that the selection shows of a series.
-fn push_series(
+// Prints a line for each sample that the selection shows of a series.
+fn print_series<O: Output>(
     alloc: Global,
+    out: &mut O,
     text: &mut String,
     head: &Head,
     slot: Slot,
     selection: &Selection,
     floats: bool,
-) -> Result<(), AllocError>
+) -> Result<(), PrintFault>
     requires sound { head.now.failed ≡ false }
     requires slot { slot < length head.now.content.table.series }
-    ensures { OnOk result (AppendsLines floats (labelled (labels_text (labels_at head.now.content.table slot)) (shown_of selection.now (history_at head.now.content slot)))
-        (string_bytes text.old) (string_bytes text.new)) }
+    ensures { OnOk result (MakesLines O.printed floats (labelled (labels_text (labels_at head.now.content.table slot)) (shown_of selection.now (history_at head.now.content slot)))
+        out.old (string_bytes text.old) out.new (string_bytes text.new)) }
 {
     let labels = labels_of(alloc, head, slot)?;
     let samples = shown_samples(head, slot, selection)?;
-    push_samples(text, &labels, &samples, floats)
+    print_samples(out, text, &labels, &samples, floats)
 }
 
-/// Returns a line for each sample that a selection shows of these series, one series after another: the labels of its series, each with a
+/// Prints a line for each sample that a selection shows of these series, one series after another: the labels of its series, each with a
 /// space after it, its time in milliseconds, a space and its value. The value is printed as a floating point number if `floats`, else as
-/// a whole number. Returns an error if out of memory.
-pub fn dump_text(
+/// a whole number. Returns the end of the text, which is not printed.
+pub(crate) fn print_dump<O: Output>(
     alloc: Global,
+    out: &mut O,
     head: &Head,
     slots: &[Slot],
     selection: &Selection,
     floats: bool,
-) -> Result<String, AllocError>
+) -> Result<String, PrintFault>
     requires sound { head.now.failed ≡ false }
     requires slots { AreSlots head.now.content slots.now }
-    ensures { IfOk result (λ text. IsDump floats selection.now head.now.content slots.now (string_bytes text)) }
+    ensures { IfOk result (λ rest. MakesText O.printed out.old out.new (string_bytes rest) (IsDump floats selection.now head.now.content slots.now)) }
 {
     let mut text = String::new(alloc);
     for slot in slots {
-        push_series(alloc, &mut text, head, *slot, selection, floats)?;
+        print_series(alloc, out, &mut text, head, *slot, selection, floats)?;
     }
     Ok(text)
 }

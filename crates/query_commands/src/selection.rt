@@ -3,7 +3,7 @@
 ghost use Rattle.std.specs.Prelude.{◌≡◌, ◌<◌, IfOk, false, filter, int_lt, length};
 ghost use Rattle.head_column.specs.Runs.{AreApart, span_any};
 ghost use Rattle.head_core.specs.Heads.{history_at};
-ghost use Rattle.query_commands.specs.Selections.{is_shown, shown_of};
+ghost use Rattle.query_commands.specs.Selections.{is_shown, shown_of, times_of};
 
 use head_column::{Run, Sample};
 use head_core::{Head, Slot};
@@ -34,6 +34,16 @@ fn is_hidden(runs: &[Run], time: i64) -> bool
 }
 
 impl Selection {
+    /// Returns the times of the samples that can be shown.
+    pub fn times(&self) -> Run
+        ensures { result ≡ times_of self.now }
+    {
+        Run {
+            min_time: self.from,
+            max_time: self.to,
+        }
+    }
+
     // Returns whether a sample of a series with these runs of hidden times is shown.
     fn shows(&self, hidden: &[Run], sample: &Sample) -> bool
         ensures { AreApart hidden.now → result ≡ is_shown self.now hidden.now sample.now }

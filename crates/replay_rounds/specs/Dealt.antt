@@ -2,6 +2,7 @@
 use Rattle.std.specs.Prelude.{ℕ, List}
 use Rattle.head_column.specs.declared.items.Item.{Item}
 use Rattle.head_column.specs.declared.items.Outcome.{Outcome}
+use Rattle.head_column.specs.declared.items.Run.{Run}
 use Rattle.replay_rounds.specs.Applying.{Ends}
 use Rattle.replay_rounds.specs.declared.rounds.Rounds.{Rounds}
 
@@ -12,4 +13,4 @@ module _ {B V : Type 0} (value : B → V) (after : V → Item → V) (outcome : 
 
 -- the ghost words of the trait `SeriesBuilder` at a type: what `B.SeriesBuilder` is in a clause
 abbrev pub SeriesWords : Type 0 → Type 1
-SeriesWords B = record { Value : Type 0; value : B → Value; after : Value → Item → Value; outcome : Value → Item → Outcome; blank : B }
+SeriesWords B = record { Value : Type 0; value : B → Value; after : Value → Item → Value; outcome : Value → Item → Outcome; blank : Run → B }

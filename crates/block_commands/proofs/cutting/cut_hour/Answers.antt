@@ -8,7 +8,7 @@ returns g c =
     let (log, source, replayed) = c.in_ok-head.ensures.content in
     let block = c.in_ok-block.block in
     let request = c.args.request in
-    let made = c.in_ok-block.ensures log request.options.min_valid replayed in
+    let made = c.in_ok-block.ensures c.times_for.result log request.options.min_valid c.times_for.ensures replayed in
     let is : IsBlockOfLog request.encoding log request.options.min_valid request.hour c.in-Ok.ulid block = search (rules, to_z-of_z, made) in
     record {
       crash = inr (

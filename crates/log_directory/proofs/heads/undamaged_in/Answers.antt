@@ -10,13 +10,13 @@ use Rattle.log_directory.proofs.UpTo.{up_to_whole}
 use Rattle.log_directory.proofs.heads.undamaged_in.Goals as goal
 
 -- a log without damage was read whole
-pub returns-in-None-clause-content : goal.returns-in-None-clause-content
-returns-in-None-clause-content g c =
+pub returns-in_ok-check_whole-in-Plain-clause-content : goal.returns-in_ok-check_whole-in-Plain-clause-content
+returns-in_ok-check_whole-in-Plain-clause-content g c =
     let replayed = c.in_ok-replayed-in-Plain.replayed in
     let view = view_of (g.S.Store.holds c.args.store.now) in
     let dir = c.args.dir.now in
     let m = c.args.options.now.min_valid in
     let (log, read, is) = c.in_ok-replayed-in-Plain.ensures.content in
-    let whole = up_to_whole view dir log (subst (λ (damage : Option Damage). IsLogUpTo view dir damage log) c.in-None.is read) in
+    let whole = up_to_whole view dir log (subst (λ (damage : Option Damage). IsLogUpTo view dir damage log) c.in_ok-check_whole-in-Plain.ensures read) in
     subst (λ (form : LogForm). (x : Files) × IsSourceIn form view dir x None × IsReplayed x m None replayed.head.content) (sym c.in-Plain.is)
-    (log, (whole, refl), subst (λ (damage : Option Damage). IsReplayed log m damage replayed.head.content) c.in-None.is is)
+    (log, (whole, refl), subst (λ (damage : Option Damage). IsReplayed log m damage replayed.head.content) c.in_ok-check_whole-in-Plain.ensures is)

@@ -14,5 +14,5 @@ invariant-loop-alloc g l =
     × (length l.fn.self.deal.builders ≤ length l.self.deal.builders)
     × (l.self.deal.workers ≡ l.fn.self.deal.workers)
     × ((items : List (ℕ × Item)) → All (λ k. k.0 < length l.fn.self.deal.builders) items
-    → HasDealt g.B.Builder.value g.B.Builder.after g.B.Builder.outcome (enumerate_from 0 (replicate (length l.fn.self.deal.builders) (g.B.Builder.value g.B.SeriesBuilder.blank))) items l.fn.self
-    → HasDealt g.B.Builder.value g.B.Builder.after g.B.Builder.outcome (enumerate_from 0 (replicate (length l.self.deal.builders) (g.B.Builder.value g.B.SeriesBuilder.blank))) items l.self)
+    → HasDealt g.B.Builder.value g.B.Builder.after g.B.Builder.outcome (enumerate_from 0 (replicate (length l.fn.self.deal.builders) (g.B.Builder.value (g.B.SeriesBuilder.blank l.times)))) items l.fn.self
+    → HasDealt g.B.Builder.value g.B.Builder.after g.B.Builder.outcome (enumerate_from 0 (replicate (length l.self.deal.builders) (g.B.Builder.value (g.B.SeriesBuilder.blank l.times)))) items l.self)
