@@ -16,7 +16,7 @@ _prom_head() {
         dump) options='-z -h --pair --from --to --floats --hidden --unpack --past-damage --workers --round-pages --min-valid --min-valid-of --help' ;;
         ranges) options='-z -h --unpack --past-damage --workers --round-pages --min-valid --min-valid-of --help' ;;
         cut) options='-z -h --hour --ulid --out --xor --unpack --past-damage --workers --round-pages --min-valid --min-valid-of --help' ;;
-        blocks) options='-z -h --out --ulid --unpack --past-damage --workers --round-pages --min-valid --min-valid-of --help' ;;
+        blocks) options='-z -h --out --ulid --memory --unpack --past-damage --workers --round-pages --min-valid --min-valid-of --help' ;;
         block) options='-h --help' ;;
         append) options='-h --rows --floats --workers --round-pages --min-valid --min-valid-of --help' ;;
         checkpoint) options='-z -h --unpack --past-damage --min-valid --min-valid-of --keep-skipped --help' ;;

@@ -88,6 +88,7 @@ complete -c prom_head -n '__fish_seen_subcommand_from cut' -l min-valid-of -r -d
 complete -c prom_head -n '__fish_seen_subcommand_from cut' -l help -s h -d 'Print help (see more with '\''--help'\'')'
 complete -c prom_head -n '__fish_seen_subcommand_from blocks' -l out -r -d 'The directory in which a folder is made for each block; it must exist'
 complete -c prom_head -n '__fish_seen_subcommand_from blocks' -l ulid -r -d 'The name of the first block, a ULID; the other names count up from it. If left out, one is made'
+complete -c prom_head -n '__fish_seen_subcommand_from blocks' -l memory -r -d 'Read the log again for each group of hours that so many bytes hold: 600M, say'
 complete -c prom_head -n '__fish_seen_subcommand_from blocks' -l unpack -s z -d 'Read compressed records too: the log that `unpack` would write'
 complete -c prom_head -n '__fish_seen_subcommand_from blocks' -l past-damage -d 'Go on after damage with all that can be read, compressed or not'
 complete -c prom_head -n '__fish_seen_subcommand_from blocks' -l workers -r -d 'How many threads replay the log, 1 to 64; no result depends on it [default: 4]'

@@ -1,6 +1,6 @@
 //! How a run can end: faults, their texts and exit statuses.
 
-ghost use Rattle.std.specs.Prelude.{◌≡◌, ◌↔◌, ◌⊎◌, ℕ, List, None, Some, IfSome};
+ghost use Rattle.std.specs.Prelude.{◌≡◌, ◌↔◌, ◌⊎◌, ℕ, List, None, Some};
 ghost use Rattle.wal_log.specs.declared.plan.PlanFault.TheVariants as plan;
 ghost use Rattle.wal_log.specs.declared.checkpoint.CheckpointFault.TheVariants as checkpoint;
 ghost use Rattle.wal_log.specs.declared.input.InputFault.TheVariants as input;

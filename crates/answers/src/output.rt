@@ -3,7 +3,6 @@
 ghost use Rattle.std.specs.Prelude.{◌++◌, ℕ, List, OnOk, string_bytes};
 ghost use Rattle.answers.specs.Outputs.{IsMade};
 
-use crate::fault::Fault;
 use std::alloc::AllocError;
 
 /// The most bytes of text that wait to be printed: 64 KiB.

@@ -80,6 +80,8 @@ pub struct BlocksRequest<'a> {
     pub ulid: &'a str,
     /// Whether the name was made for these blocks, and not given.
     pub is_made: bool,
+    /// How many bytes of memory are to suffice, if that is given: the log is read once for each group of hours that they hold.
+    pub memory: Option<u64>,
     pub options: Options,
 }
 

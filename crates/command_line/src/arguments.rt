@@ -174,6 +174,13 @@ pub(crate) fn blocks_out<'a>(alloc: Global) -> Arg<'a> {
         .required(true)
 }
 
+pub(crate) fn memory<'a>(alloc: Global) -> Arg<'a> {
+    Arg::new(alloc, "memory")
+        .long("memory")
+        .value_name("SIZE")
+        .help("Read the log again for each group of hours that so many bytes hold: 600M, say")
+}
+
 pub(crate) fn new_log<'a>(alloc: Global) -> Arg<'a> {
     Arg::new(alloc, "out")
         .long("out")

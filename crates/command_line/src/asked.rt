@@ -1,6 +1,7 @@
 //! What a command line asks for.
 
 use crate::commands::program;
+use crate::sizes::{BAD_SIZE, size_of};
 use answers::{
     AnalyzeRequest, AppendRequest, BlockRequest, BlocksRequest, CheckpointRequest, CutRequest,
     DumpRequest, Encoding, InspectRequest, LogForm, Request, RescueRequest, UnpackRequest,
@@ -57,6 +58,11 @@ fn options(of: &ArgMatches<'_>) -> Option<Options> {
         round_pages: of.get_one::<u32>("round-pages")? as usize,
         min_valid: min_valid(of),
     })
+}
+
+// Returns how many bytes of memory are to suffice, if that is given as a size.
+fn memory(of: &ArgMatches<'_>) -> Option<u64> {
+    size_of(of.get_str("memory")?)
 }
 
 // Returns the form in which the log is read.
@@ -171,6 +177,7 @@ fn of_every_hour<'a>(of: &ArgMatches<'a>) -> Option<BlocksRequest<'a>> {
         out: of.get_str("out")?,
         ulid: name.unwrap_or(""),
         is_made: name.is_none(),
+        memory: memory(of),
         options: options(of)?,
     })
 }
@@ -288,11 +295,22 @@ fn line_of<'a>(matches: &ArgMatches<'a>) -> Option<CommandLine<'a>> {
     })
 }
 
+// Returns whether what is given as a size is none.
+fn has_bad_size(matches: &ArgMatches<'_>) -> bool {
+    match matches.subcommand() {
+        Some(("blocks", of)) => of.get_str("memory").is_some() && memory(of).is_none(),
+        _ => false,
+    }
+}
+
 fn matched<'a>(
     command: &mut Command<'a>,
     words: &'a [String],
 ) -> Result<Option<CommandLine<'a>>, Error> {
     let matches = command.try_get_matches_from_mut(words)?;
+    if has_bad_size(&matches) {
+        return Err(command.error(ErrorKind::ValueValidation, BAD_SIZE)?);
+    }
     Ok(line_of(&matches))
 }
 

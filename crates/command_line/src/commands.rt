@@ -89,7 +89,7 @@ fn blocks<'a>(alloc: Global) -> Result<Command<'a>, AllocError> {
     let about = "Writes each hour of the log as a block that a server opens";
     let command = on_log(alloc, "blocks", about, texts::BLOCKS);
     let command = also(also(command, blocks_out(alloc)), first_ulid(alloc));
-    replaying(alloc, command)
+    replaying(alloc, also(command, memory(alloc)))
 }
 
 fn rescue<'a>(alloc: Global) -> Result<Command<'a>, AllocError> {

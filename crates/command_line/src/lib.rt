@@ -6,6 +6,7 @@ mod asked;
 mod commands;
 mod least;
 mod naming;
+mod sizes;
 mod texts;
 
 pub use asked::{Asked, CommandLine, parse};

@@ -152,8 +152,13 @@ already in OUT, byte for byte, is reported as `there` and left. After an interru
 again. After a crash each block is whole or not there. Unfinished folders end in .tmp, and you may
 remove them.
 
+The samples of all hours are in memory at once, if they fit in SIZE, which is half of what is free
+unless --memory says it. Otherwise the log is counted, and then read once for each group of hours
+that fits, at least one at a time. SIZE is a number of bytes: 600M, say, or 2G.
+
 Examples:
   prom_head blocks wal --out blocks
+  prom_head blocks wal --out blocks --memory 600M
   prom_head blocks /var/lib/prometheus/metrics2/wal -z --out blocks
 
 Exit status:

@@ -1,11 +1,8 @@
 -- What answers of commands on a log say.
 use Rattle.answers.proofs.Answered.{log_more, up_to_more}
-use Rattle.std.specs.Prelude.{◌≡◌, ℕ, ℤ, List, ◌++◌, Option, None, Some, IsSome, MatchResult, Result, string_bytes, true, false}
+use Rattle.std.specs.Prelude.{◌≡◌, ℕ, ℤ, List, ◌++◌, Option, MatchResult, Result, true, false}
 use Rattle.std.specs.List.{flat_map}
-use Rattle.std.proofs.Common.{ap, refl, subst, sym, ◌∙◌}
-use Rattle.std.proofs.lemmas.Bool.{false≢true}
-use Rattle.std.proofs.lemmas.Result.{MatchResult-weaker}
-use Rattle.wal_log.specs.declared.reading.Placed.{Placed}
+use Rattle.std.proofs.Common.{ap, subst, ◌∙◌}
 use Rattle.head_core.specs.Content.{Content}
 use Rattle.head_resolver.specs.declared.counts.Counts.{Counts}
 use Rattle.store.specs.Views.{View}
@@ -17,9 +14,8 @@ use Rattle.answers.specs.declared.requests.Request.{Request}
 use Rattle.answers.specs.declared.requests.Request.TheVariants as asked
 use Rattle.answers.specs.declared.answer.Answer.{Answer}
 use Rattle.answers.specs.Answers.{TellsLog, TellsUpTo}
-use Rattle.answers.specs.Outputs.{MakesText}
-use Rattle.log_commands.specs.Printed.{IsCountsText, IsRecordsText, IsSeriesText, Prints, counts_text, damage_line, record_line, series_line}
-use Rattle.log_directory.specs.Replays.{IsReadingIn, IsReplayIn, IsTallyIn, slots_of}
+use Rattle.log_commands.specs.Printed.{IsCountsText, IsSeriesText, Prints, counts_text, damage_line, series_line}
+use Rattle.log_directory.specs.Replays.{IsReplayIn, IsTallyIn, slots_of}
 use Rattle.answers.specs.Spellings.{SpellsPair}
 
 module _ {O : Type 0} (printed : O → List ℕ → O → Type 0) where
@@ -27,16 +23,6 @@ module _ {O : Type 0} (printed : O → List ℕ → O → Type 0) where
   refused_prints old new view (asked.Replay dir form options) answer fails undamaged = record { done = λ went. absurd (fails went); damaged = λ bad. absurd (undamaged bad) }
   refused_prints old new view (asked.Records dir form) answer fails undamaged = record { done = λ went. absurd (fails went); damaged = λ bad. absurd (undamaged bad) }
   refused_prints old new view (asked.Series dir form pair options) answer fails undamaged = record { done = λ went. absurd (fails went); damaged = λ bad. absurd (undamaged bad) }
-
-  -- a text of which nothing is printed meanwhile
-  waits : (out : O) (text : List ℕ) (IsText : List ℕ → Type 0) → IsText text → MakesText printed out out text IsText
-  waits out text IsText is = (text, is, λ begun before was. (before, was, refl))
-
-  pub log_at_once : (out : O) (IsText : Option Flaw → List ℕ → Type 0) (Q : Fault → Type 0) (result : Result Answer Fault) → MatchResult result (TellsLog IsText) Q → MatchResult result (TellsLog (λ told rest. MakesText printed out out rest (IsText told))) Q
-  log_at_once out IsText Q result = log_more _ _ (λ told text is. waits out text (IsText told) is) Q result
-
-  pub up_to_at_once : (out : O) (IsText : Option Flaw → List ℕ → Type 0) (Q : Fault → Type 0) (result : Result Answer Fault) → MatchResult result (TellsUpTo IsText) Q → MatchResult result (TellsUpTo (λ told rest. MakesText printed out out rest (IsText told))) Q
-  up_to_at_once out IsText Q result = up_to_more _ _ (λ told text is. waits out text (IsText told) is) Q result
 
 -- ---- of the log in a directory
 

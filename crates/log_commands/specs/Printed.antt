@@ -91,8 +91,8 @@ pub record IsSeriesText (form : LogForm) (view : View) (dir : List ℕ) (word : 
 
 -- ---- answers
 
--- the answer of each request: some of the text may be printed meanwhile, and the answer has the rest
+-- The answer of each request. Of the lines of records some may be printed meanwhile, and the answer has the rest; else nothing is.
 abbrev pub Prints : {O : Type 0} → (O → List ℕ → O → Type 0) → O → O → View → Request → Answer → Type 0
-Prints printed old new view (asked.Replay dir form options) answer = TellsLog (λ told rest. MakesText printed old new rest (IsCountsText form view dir.now options.min_valid told)) answer
+Prints printed old new view (asked.Replay dir form options) answer = TellsLog (λ told text. (new ≡ old) × IsCountsText form view dir.now options.min_valid told text) answer
 Prints printed old new view (asked.Records dir form) answer = TellsLog (λ told rest. MakesText printed old new rest (IsRecordsText form view dir.now told)) answer
-Prints printed old new view (asked.Series dir form pair options) answer = TellsUpTo (λ told rest. MakesText printed old new rest (IsSeriesText form view dir.now (option_map (λ w. w.now) pair) options.min_valid told)) answer
+Prints printed old new view (asked.Series dir form pair options) answer = TellsUpTo (λ told text. (new ≡ old) × IsSeriesText form view dir.now (option_map (λ w. w.now) pair) options.min_valid told text) answer

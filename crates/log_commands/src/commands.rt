@@ -1,13 +1,13 @@
 //! The commands on a log, over any store.
 
-ghost use Rattle.std.specs.Prelude.{◌≡◌, ◌↔◌, ◌++◌, [], IsSome, MatchResult, None, Some, false, string_bytes};
+ghost use Rattle.std.specs.Prelude.{◌≡◌, ◌++◌, MatchResult, false, string_bytes};
 ghost use Rattle.std.specs.List.{flat_map};
 ghost use Rattle.std.specs.Option.{option_map};
-ghost use Rattle.answers.specs.Faults.{TellsDamage, TellsNoDamage};
+ghost use Rattle.answers.specs.Faults.{TellsNoDamage};
 ghost use Rattle.store.specs.Views.{view_of};
 ghost use Rattle.answers.specs.Answers.{TellsLog, TellsUpTo};
 ghost use Rattle.answers.specs.Outputs.{MakesText};
-ghost use Rattle.log_commands.specs.Printed.{IsCountsText, IsRecordsText, IsSeriesText, Prints, counts_text, damage_line, record_line, series_line};
+ghost use Rattle.log_commands.specs.Printed.{IsCountsText, IsRecordsText, IsSeriesText, Prints, counts_text, damage_line, series_line};
 ghost use Rattle.log_directory.specs.Replays.{slots_of};
 
 use crate::record_lines::RecordLines;

@@ -1,7 +1,7 @@
 //! The lines of a log's records, printed some at a time.
 
 ghost use Rattle.std.specs.Prelude.{◌≡◌, ◌++◌, [], OnOk, string_bytes};
-ghost use Rattle.log_commands.specs.Printed.{kind_of_record, line_of, record_line};
+ghost use Rattle.log_commands.specs.Printed.{kind_of_record, line_of};
 
 use answers::{FileNumber, Output, PrintFault, kind_of_file, print_long};
 use std::alloc::{AllocError, Global};

@@ -4,7 +4,6 @@ ghost use Rattle.std.specs.Prelude.{◌≡◌, ◌<◌, ◌∷◌, ◌++◌, IfO
 ghost use Rattle.std.specs.List.{flat_map};
 ghost use Rattle.head_core.specs.Heads.{AreSlots};
 ghost use Rattle.head_series.specs.Table.{labels_at};
-ghost use Rattle.answers.specs.Lines.{number_line};
 ghost use Rattle.log_commands.specs.Printed.{counts_text, damage_line, series_line};
 ghost use Rattle.answers.specs.Spellings.{pair_text};
 

@@ -8,7 +8,6 @@ ghost use Rattle.store.specs.Views.{view_of};
 ghost use Rattle.answers.specs.Answers.{IsNoDamage};
 
 use crate::kept::{replay_log_at, replay_parts_at};
-use crate::replaying::replay_parts;
 use crate::source::{Source, read_source};
 use answers::{DamageLine, Fault, Flaw, LogForm};
 use head_core::Head;
@@ -81,25 +80,6 @@ pub fn undamaged_source<S: Store>(
     Ok(source)
 }
 
-// Replays the log in a directory, in this form, which is read before.
-fn undamaged_read<R: Threads + Wait + Sync, S: Store, P: Progress + Sync>(
-    rt: &R,
-    alloc: Global,
-    store: &S,
-    progress: &P,
-    dir: &str,
-    form: LogForm,
-    options: &Options,
-) -> Result<UndamagedLog, Fault>
-    ensures content { IfOk result (λ r. (log : Files) × IsSourceIn form (view_of (S.holds store.now)) dir.now log r.flaw × IsReplayed log options.now.min_valid None r.head.content) }
-    ensures unhurt { IfOk result (λ r. IsNoDamage r.flaw) }
-    ensures sound { IfOk result (λ r. r.head.failed ≡ false) }
-{
-    let Source { log, flaw } = undamaged_source(alloc, store, dir, form)?;
-    let head = undamaged_head(rt, alloc, progress, log, options)?;
-    Ok(UndamagedLog { head, flaw })
-}
-
 // Replays the log in a directory, in this form, which is read before, to the head that keeps the samples of these times.
 fn undamaged_read_at<R: Threads + Wait + Sync, S: Store, P: Progress + Sync>(
     rt: &R,
@@ -155,39 +135,6 @@ where
         }
         LogForm::Unpacked | LogForm::PastDamage => {
             undamaged_read_at(rt, alloc, store, progress, dir, form, options, times)
-        }
-    }
-}
-
-/// Replays the log in a directory, in this form, to its head. It is read as by [`replay_in`](crate::replay_in). Returns `Damage` if the log is
-/// damaged. One of which parts are lost is not refused.
-pub fn undamaged_in<R: Threads + Wait + Sync, S: PartStore + Sync, P: Progress + Sync>(
-    rt: &R,
-    alloc: Global,
-    store: &S,
-    progress: &P,
-    dir: &str,
-    form: LogForm,
-    options: &Options,
-) -> Result<UndamagedLog, Fault>
-where
-    S::Reader: Send,
-    S::Writer: Send,
-    ensures content { IfOk result (λ r. (log : Files) × IsSourceIn form (view_of (S.holds store.now)) dir.now log r.flaw × IsReplayed log options.now.min_valid None r.head.content) }
-    ensures unhurt { IfOk result (λ r. IsNoDamage r.flaw) }
-    ensures sound { IfOk result (λ r. r.head.failed ≡ false) }
-{
-    match form {
-        LogForm::Plain => {
-            let replayed = replay_parts(rt, alloc, store, progress, dir, options)?;
-            check_whole(replayed.damage)?;
-            Ok(UndamagedLog {
-                head: replayed.head,
-                flaw: None,
-            })
-        }
-        LogForm::Unpacked | LogForm::PastDamage => {
-            undamaged_read(rt, alloc, store, progress, dir, form, options)
         }
     }
 }

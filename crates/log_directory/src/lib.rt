@@ -34,13 +34,14 @@ mod unpacking;
 
 pub use directory::{names_in, read_in, read_log, read_paths, read_planned_file};
 pub use flaws::{flaw_of_reads, lost_count};
-pub use heads::{UndamagedLog, undamaged_at, undamaged_head, undamaged_in, undamaged_source};
+pub use heads::{UndamagedLog, undamaged_at, undamaged_head, undamaged_source};
 pub use kept::replay_at_in;
 pub use listed_files::{PartFile, read_listed};
 pub use listing::{Listing, list_files, list_log};
 pub use lost::{Lost, LostPart};
 pub use lost_lines::push_lost;
 pub use name_slots::{Slot, checkpoint_slots, segment_slots};
+pub use opening::length_in;
 pub use planning::{plan_checkpoint, plan_log};
 pub use replaying::{ReplayedLog, TalliedLog, flaw_of, replay_in, slots_of, tally_in};
 pub use rescued_log::read_rescued;

@@ -1,6 +1,6 @@
 -- Blocks that are written hour by hour.
-use Rattle.std.specs.Prelude.{◌≡◌, ◌⊎◌, ℕ, suc, ◌+◌, ◌<◌, ◌≤◌, ℤ, IsErrAnd, length, Err, IsOk, Ok, OnErr, OnOk, Result, List, [], ◌∷◌, ◌++◌, ⊤, refl}
-use Rattle.std.proofs.Common.{ap, drop, get_or, inl, inr, subst, sym, take, ◌∙◌}
+use Rattle.std.specs.Prelude.{◌≡◌, ◌⊎◌, ℕ, suc, ◌+◌, ◌<◌, ◌≤◌, ℤ, IsErrAnd, length, Err, IsOk, Ok, OnErr, OnOk, Result, List, [], ◌∷◌, ◌++◌, Contains, ⊤, refl}
+use Rattle.std.proofs.Common.{ap, arith, drop, get_or, inl, inr, subst, sym, take, ◌∙◌}
 use Rattle.std.proofs.Math.Seq.{drop-cons}
 use Rattle.std.proofs.lemmas.List.{take-append-drop, take_all, take_more}
 use Rattle.block_read.specs.declared.block.Block.{Block}
@@ -74,15 +74,18 @@ module _ {S : Type 0} (did : S → List Call → S → Type 0) (holds : S → Li
 
   -- ---- in other words
 
-  module _ (P Q : ℤ → Text → Block → Type 0) (more : (hour : ℤ) (name : Text) (block : Block) → P hour name block → Q hour name block) where
-    left_more : (old : S) (hour : ℤ) (new : S) → (new ≡ old) ⊎ GivesUpBlock did holds out P old hour new → (new ≡ old) ⊎ GivesUpBlock did holds out Q old hour new
-    left_more old hour new (inl same) = inl same
-    left_more old hour new (inr (name, block, is, wrote)) = inr (name, block, more hour name block is, wrote)
+  module _ (P Q : ℤ → Text → Block → Type 0) where
+    left_more : (old : S) (hour : ℤ) (new : S) → ((name : Text) (block : Block) → P hour name block → Q hour name block) → (new ≡ old) ⊎ GivesUpBlock did holds out P old hour new → (new ≡ old) ⊎ GivesUpBlock did holds out Q old hour new
+    left_more old hour new more (inl same) = inl same
+    left_more old hour new more (inr (name, block, is, wrote)) = inr (name, block, more name block is, wrote)
 
-    pub have_more : (old new : S) (hours : List ℤ) (W : Type 0) → HaveBlocks did holds out P old hours W new → HaveBlocks did holds out Q old hours W new
-    have_more old new [] W same = same
-    have_more old new (hour ∷ hours) W (inl (next, (name, block, is, at), have)) = inl (next, (name, block, more hour name block is, at), have_more next new hours W have)
-    have_more old new (hour ∷ hours) W (inr (failed, left)) = inr (failed, left_more old hour new left)
+    -- what holds of the blocks of these hours
+    pub have_more : (old new : S) (hours : List ℤ) (W : Type 0) → ((hour : ℤ) → Contains hours hour → (name : Text) (block : Block) → P hour name block → Q hour name block) → HaveBlocks did holds out P old hours W new
+        → HaveBlocks did holds out Q old hours W new
+    have_more old new [] W more same = same
+    have_more old new (hour ∷ hours) W more (inl (next, (name, block, is, at), have)) =
+        inl (next, (name, block, more hour (0, omega arith, refl) name block is, at), have_more next new hours W (λ (later : ℤ) (among : Contains hours later). more later (suc among.0, omega (arith, among.1), among.2)) have)
+    have_more old new (hour ∷ hours) W more (inr (failed, left)) = inr (failed, left_more old hour new (more hour (0, omega arith, refl)) left)
 
   -- ---- one block
 

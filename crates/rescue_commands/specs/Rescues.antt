@@ -1,12 +1,15 @@
 -- What is written where a log becomes blocks, one for each hour that has a sample.
-use Rattle.std.specs.Prelude.{◌≡◌, ◌↔◌, ◌⊎◌, ℕ, ℤ, All, Contains, List, [], ◌∷◌, Option, None, Some, ⊤}
+use Rattle.std.specs.Prelude.{◌≡◌, ◌↔◌, ◌⊎◌, ℕ, ℤ, pos, negsuc, ◌-ℤ◌, All, Contains, List, [], ◌∷◌, Option, None, Some, ⊤}
 use Rattle.std.specs.Path.{path_join}
 use Rattle.wal_log.specs.Inputs.{Files}
 use Rattle.block_files.specs.Ulids.{IsUlid}
 use Rattle.block_files.specs.declared.encoding.Encoding.TheVariants.{Xor}
 use Rattle.block_read.specs.declared.block.Block.{Block}
 use Rattle.hw_bytes.specs.Sums.{Text}
+use Rattle.head_column.specs.declared.items.Run.{Run}
+use Rattle.head_column.specs.Hours.{hour_start}
 use Rattle.head_core.specs.Content.{Content}
+use Rattle.head_core.specs.Kept.{content_at}
 use Rattle.head_serial.specs.Replays.{IsReplayed}
 use Rattle.block_cut.specs.Logs.{IsBlockOfLog}
 use Rattle.block_cut.specs.Ranges.{Ascends, IsSampled}
@@ -60,6 +63,18 @@ pub record AreHours (c : Content) (hours : List ℤ) : Type 0 where
   pub ascend : Ascends hours
   pub exact : (k : ℤ) → Contains hours k ↔ IsSampled k c
 
+-- the least and the greatest time
+abbrev pub least_time : ℤ
+least_time = negsuc 9223372036854775807
+
+abbrev pub greatest_time : ℤ
+greatest_time = pos 9223372036854775807
+
+-- Times at which passes begin behind the one that begins at `from`: each is later than the one before it, and an hour begins there.
+pub record AreBounds (from : ℤ) (bounds : List ℤ) : Type 0 where
+  pub ascend : Ascends (from ∷ bounds)
+  pub starts : All (λ (t : ℤ). (k : ℤ) × (t ≡ hour_start k)) bounds
+
 -- nothing failed: no fault is reported, but for parts of the log that are lost
 abbrev pub IsWell : Answer → Type 0
 IsWell answer = (answer.fault ≡ None) ⊎ ((parts : ℕ) × (answer.fault ≡ Some (Lost parts)))
@@ -68,18 +83,34 @@ IsWell answer = (answer.fault ≡ None) ⊎ ((parts : ℕ) × (answer.fault ≡ 
 abbrev pub TellsLost : Answer → Option Flaw → Type 0
 TellsLost answer own = answer.fault ≡ fault_of own
 
--- The log in a directory, in a form, was replayed, hour by hour its blocks were written in the directory `out`, and where all went well, what is
--- wrong with the log was reported; or the call failed before anything was written.
-abbrev pub WritesHours : {S : Type 0} → (S → List Call → S → Type 0) → (S → List ℕ → Found → Type 0) → S → LogForm → List ℕ → List ℕ → ℤ → Type 0 → (Option Flaw → Type 0) → S → Type 0
-WritesHours did holds old form dir out m WentWell Told new =
-    ((new ≡ old) × (WentWell → ⊥))
-    ⊎ ((log : Files) × (own : Option Flaw) × (content : Content) × (hours : List ℤ) × IsSourceIn form (view_of (holds old)) dir log own × IsNoDamage own
-    × IsReplayed log m None content × AreHours content hours × HaveBlocks did holds out (IsBlockOfHour log m) old hours WentWell new × (WentWell → Told own))
+module _ {S : Type 0} (did : S → List Call → S → Type 0) (holds : S → List ℕ → Found → Type 0) (form : LogForm) (dir out : List ℕ) (m : ℤ) where
+  -- The log in a directory, in a form, was replayed, hour by hour the blocks of these hours were written in the directory `out`, and where all went
+  -- well, what is wrong with the log was reported; or the call failed before anything was written.
+  abbrev pub WritesHours : (Content → List ℤ → Type 0) → S → Type 0 → (Option Flaw → Type 0) → S → Type 0
+  WritesHours Are old WentWell Told new =
+      ((new ≡ old) × (WentWell → ⊥))
+      ⊎ ((log : Files) × (own : Option Flaw) × (content : Content) × (hours : List ℤ) × IsSourceIn form (view_of (holds old)) dir log own × IsNoDamage own
+      × IsReplayed log m None content × Are content hours × HaveBlocks did holds out (IsBlockOfHour log m) old hours WentWell new × (WentWell → Told own))
 
--- what `blocks` does
+  -- the same, of the hours that have a sample at these times
+  abbrev pub WritesHoursAt : Run → S → Type 0 → (Option Flaw → Type 0) → S → Type 0
+  WritesHoursAt times old WentWell Told new = WritesHours (λ content hours. AreHours (content_at times content) hours) old WentWell Told new
+
+  -- Pass by pass, the log was read as it was then, and the blocks of the hours with a sample at the times of the pass were written: the first pass
+  -- begins at `from`, each other one at one of these bounds, and the last has all times behind. Of what is wrong with the log, what the last pass met
+  -- was reported. If not all went well, it was so up to some pass.
+  abbrev pub WritesPasses : S → ℤ → List ℤ → Type 0 → (Option Flaw → Type 0) → S → Type 0
+  WritesPasses old from [] WentWell Told new = WritesHoursAt (record { min_time = from; max_time = greatest_time }) old WentWell Told new
+  WritesPasses old from (next ∷ later) WentWell Told new =
+      let times : Run = record { min_time = from; max_time = next -ℤ pos 1 } in
+      ((middle : S) × WritesHoursAt times old ⊤ (λ own. ⊤) middle × WritesPasses middle next later WentWell Told new)
+      ⊎ ((WentWell → ⊥) × WritesHoursAt times old ⊥ (λ own. ⊤) new)
+
+-- what `blocks` does: in one pass, or in several, each of whole hours
 abbrev pub WritesBlocks : {S : Type 0} → (S → List Call → S → Type 0) → (S → List ℕ → Found → Type 0) → S → BlocksRequest → Type 0 → (Option Flaw → Type 0) → S → Type 0
-WritesBlocks did holds old request WentWell Told new = WritesHours did holds old request.form request.dir.now request.out.now request.options.min_valid WentWell Told new
+WritesBlocks did holds old request WentWell Told new =
+    (bounds : List ℤ) × AreBounds least_time bounds × WritesPasses did holds request.form request.dir.now request.out.now request.options.min_valid old least_time bounds WentWell Told new
 
 -- what `rescue` does
 abbrev pub RescuesBlocks : {S : Type 0} → (S → List Call → S → Type 0) → (S → List ℕ → Found → Type 0) → S → RescueRequest → Type 0 → (Option Flaw → Type 0) → S → Type 0
-RescuesBlocks did holds old request WentWell Told new = WritesHours did holds old PastDamage request.dir.now request.out.now request.options.min_valid WentWell Told new
+RescuesBlocks did holds old request WentWell Told new = WritesHours did holds PastDamage request.dir.now request.out.now request.options.min_valid AreHours old WentWell Told new

@@ -5,11 +5,12 @@ ghost use Rattle.answers.specs.declared.fault.Status.TheVariants.{Done};
 ghost use Rattle.rescue_commands.specs.Rescues.{IsWell, TellsLost, WritesBlocks};
 
 use crate::fault::failed;
-use crate::hours::write_hours;
+use crate::passes::write_passes;
+use crate::planning::bounds_for;
 use crate::report::Telling;
+use crate::run::Run;
 use answers::{Answer, BlocksRequest, Fault};
 use block_read::Ulid;
-use log_directory::{UndamagedLog, undamaged_in};
 use progress::Progress;
 use std::alloc::Global;
 use std::sync::Wait;
@@ -33,16 +34,19 @@ where
     let Ok(ulid) = Ulid::new(request.ulid) else {
         return Err(Fault::BadUlid);
     };
-    let (dir, form) = (request.dir, request.form);
-    let log = undamaged_in(rt, alloc, store, progress, dir, form, &request.options)?;
-    let UndamagedLog { head, flaw } = log;
-    let text = write_hours(rt, alloc, store, &head, request.out, ulid, &Telling::Blocks)?;
-    Ok(Answer::up_to(text, flaw))
+    let bounds = bounds_for(alloc, store, &request)?;
+    let telling = Telling::Blocks {
+        passes: bounds.len() + 1,
+    };
+    let mut run = Run::new(alloc, &telling, ulid)?;
+    let flaw = write_passes(rt, alloc, store, progress, request, &bounds, &mut run)?;
+    Ok(Answer::up_to(run.into_text(), flaw))
 }
 
-/// Carries out a request: writes a block for each hour of a log that has a sample, and says which. Nothing is written if the name that is given
-/// is not a ULID, or if the log is damaged and not read past its damage. If parts of the log are lost, that is reported besides the blocks. Where
-/// it fails, the blocks of the hours before are written, and a later run leaves them.
+/// Carries out a request: writes a block for each hour of a log that has a sample, and says which. Where the head of the whole log takes more memory
+/// than it may, the log is read once for each group of hours, as it is then. Nothing is written if the name that is given is not a ULID, or if the
+/// log is damaged and not read past its damage. If parts of the log are lost, that is reported besides the blocks. Where it fails, the blocks of the
+/// hours before are written, and a later run leaves them.
 pub fn carry_out_blocks<R: Threads + Wait + Sync, S: PartStore + Sync, P: Progress + Sync>(
     rt: &R,
     alloc: Global,

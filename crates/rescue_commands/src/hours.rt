@@ -4,13 +4,11 @@ ghost use Rattle.std.specs.Prelude.{◌≡◌, ◌<◌, IsOk, false};
 ghost use Rattle.rescue_commands.specs.Rescues.{HaveBlocks};
 ghost use Rattle.rescue_commands.specs.Steps.{IsBlockOfHead, WritesHead};
 
-use crate::report::Telling;
 use crate::run::Run;
 use crate::shelf::{Shelf, shelf_of};
 use crate::writing::write_next;
 use answers::Fault;
 use block_cut::sampled_hours;
-use block_read::Ulid;
 use head_column::Hour;
 use head_core::Head;
 use std::alloc::Global;
@@ -54,40 +52,21 @@ fn write_each<R: Threads + Sync, S: Store>(
     Ok(())
 }
 
-// Writes the blocks of hours of a head, and returns the text that is printed.
-fn write_on<R: Threads + Sync, S: Store>(
-    rt: &R,
-    alloc: Global,
-    store: &mut S,
-    head: &Head,
-    hours: &[Hour],
-    shelf: &Shelf<'_>,
-    first: Ulid,
-    telling: &Telling<'_>,
-) -> Result<String, Fault>
-    requires { head.now.failed ≡ false }
-    ensures { HaveBlocks S.did S.holds shelf.now.out.now (IsBlockOfHead head.now.content) store.old hours.now (IsOk result) store.new }
-{
-    let mut run = Run::new(alloc, telling, hours.len(), first)?;
-    write_each(rt, alloc, store, head, hours, shelf, &mut run)?;
-    Ok(run.into_text())
-}
-
-/// Writes a block for each hour of a head with an accepted sample in the directory `out`, unless it is there, and returns the text that is
-/// printed. The name of the first is `first`, and those of the others follow it. Names that are taken are passed over. The head must not have failed.
+/// Writes a block for each hour of a head with an accepted sample in the directory `out`, unless it is there, and notes it. The names are those that
+/// come next in the run. Names that are taken are passed over. The head must not have failed.
 pub(crate) fn write_hours<R: Threads + Sync, S: Store>(
     rt: &R,
     alloc: Global,
     store: &mut S,
     head: &Head,
     out: &str,
-    first: Ulid,
-    telling: &Telling<'_>,
-) -> Result<String, Fault>
+    run: &mut Run<'_>,
+) -> Result<(), Fault>
     requires { head.now.failed ≡ false }
     ensures crash { WritesHead S.did S.holds out.now head.now.content store.old (IsOk result) store.new }
 {
     let hours = sampled_hours(alloc, head)?;
     let shelf = shelf_of(alloc, store, out, !hours.is_empty())?;
-    write_on(rt, alloc, store, head, &hours, &shelf, first, telling)
+    run.expect(hours.len());
+    write_each(rt, alloc, store, head, &hours, &shelf, run)
 }

@@ -38,8 +38,8 @@ impl Drop for Rescued<'_> {
 /// What is reported besides the blocks.
 #[derive(Drop)]
 pub(crate) enum Telling<'a> {
-    /// By `blocks`: nothing.
-    Blocks,
+    /// By `blocks`: how many times the log is read, if that is more than once.
+    Blocks { passes: usize },
     /// By `rescue`.
     Rescue(Rescued<'a>),
 }
@@ -119,9 +119,13 @@ fn push_rescued(
 }
 
 // Appends the text of `blocks`.
-fn push_alone(text: &mut String, blocks: &[HourBlock]) -> Result<(), AllocError> {
+fn push_alone(text: &mut String, blocks: &[HourBlock], passes: usize) -> Result<(), AllocError> {
     push_blocks(text, blocks)?;
-    push_sums(text, blocks)
+    push_sums(text, blocks)?;
+    if 1 < passes {
+        writeln!(text, "passes {passes}")?;
+    }
+    Ok(())
 }
 
 /// Returns the text that is printed.
@@ -132,7 +136,7 @@ pub(crate) fn printed(
 ) -> Result<String, AllocError> {
     let mut text = String::new(alloc);
     match telling {
-        Telling::Blocks => push_alone(&mut text, blocks)?,
+        Telling::Blocks { passes } => push_alone(&mut text, blocks, *passes)?,
         Telling::Rescue(rescued) if rescued.json => text = document(alloc, rescued, blocks)?,
         Telling::Rescue(rescued) => push_rescued(&mut text, alloc, rescued, blocks)?,
     }

@@ -8,6 +8,7 @@ ghost use Rattle.rescue_commands.specs.Steps.{WritesHead};
 use crate::fault::failed;
 use crate::hours::write_hours;
 use crate::report::{Rescued, Telling};
+use crate::run::Run;
 use answers::{Answer, Fault, RescueRequest};
 use block_read::Ulid;
 use head_core::{Counts, Head};
@@ -52,7 +53,9 @@ fn write_rescued<R: Threads + Sync, S: Store>(
     ensures crash { WritesHead S.did S.holds request.entry.out.now head.now.content store.old (IsOk result) store.new }
 {
     let telling = telling_of(request, files, head.counts());
-    write_hours(rt, alloc, store, head, request.out, first, &telling)
+    let mut run = Run::new(alloc, &telling, first)?;
+    write_hours(rt, alloc, store, head, request.out, &mut run)?;
+    Ok(run.into_text())
 }
 
 // Carries out a request, or returns why it failed.

@@ -14,13 +14,13 @@ use std::alloc::{AllocError, Global};
 /// How far a run is.
 pub(crate) struct Run<'a> {
     telling: &'a Telling<'a>,
-    // How many hours there are.
-    hours: usize,
+    // How many blocks there are once those of all hours that are expected are.
+    expected: usize,
     // The name of the next block that is written, unless another has it. `None` after the last name.
     next: Option<Ulid>,
     // The blocks of the hours so far, the one that is about to be written among them.
     blocks: Vec<HourBlock>,
-    // The text that is printed, once the block of the last hour is among them.
+    // The text that is printed, once the block of the last hour that is expected is among them.
     text: String,
 }
 
@@ -28,7 +28,7 @@ impl Drop for Run<'_> {
     fn drop(self) {
         let Run {
             telling: _,
-            hours: _,
+            expected: _,
             next: _,
             blocks: _blocks,
             text: _text,
@@ -37,17 +37,16 @@ impl Drop for Run<'_> {
 }
 
 impl<'a> Run<'a> {
-    /// Makes a run that writes blocks of so many hours, the first of them under this name.
+    /// Makes a run that expects no hour yet. It writes its first block under this name.
     pub(crate) fn new(
         alloc: Global,
         telling: &'a Telling<'a>,
-        hours: usize,
         first: Ulid,
     ) -> Result<Run<'a>, AllocError> {
         let text = printed(alloc, telling, &[])?;
         Ok(Run {
             telling,
-            hours,
+            expected: 0,
             next: Some(first),
             blocks: Vec::new(alloc),
             text,
@@ -58,7 +57,7 @@ impl<'a> Run<'a> {
     pub(crate) fn into_text(self) -> String {
         let Run {
             telling: _,
-            hours: _,
+            expected: _,
             next: _,
             blocks: _blocks,
             text,
@@ -66,10 +65,15 @@ impl<'a> Run<'a> {
         text
     }
 
-    // Adds the block of an hour. With the last one the text is made, so that nothing can fail once that block is written.
+    /// Expects so many hours more, whose blocks come next.
+    pub(crate) fn expect(&mut self, hours: usize) {
+        self.expected = self.expected.saturating_add(hours);
+    }
+
+    // Adds the block of an hour. With the last one that is expected the text is made, so that nothing can fail once that block is written.
     fn add(&mut self, alloc: Global, block: HourBlock) -> Result<(), AllocError> {
         self.blocks.push(block)?;
-        if self.blocks.len() == self.hours {
+        if self.blocks.len() == self.expected {
             self.text = printed(alloc, self.telling, &self.blocks)?;
         }
         Ok(())

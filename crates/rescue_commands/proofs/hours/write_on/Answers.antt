@@ -1,9 +1,0 @@
-use Rattle.std.specs.Prelude.{IsOk}
-use Rattle.rescue_commands.specs.Steps.{IsBlockOfHead}
-use Rattle.rescue_commands.proofs.Written.{have_none, not_ok}
-use Rattle.rescue_commands.proofs.hours.write_on.Goals as goal
-
-pub returns-in_err-run : goal.returns-in_err-run
-returns-in_err-run g c =
-    have_none g.S.Store.did g.S.Store.holds c.args.shelf.now.out.now (IsBlockOfHead c.args.head.now.content) c.args.store.now c.args.hours.now (IsOk c.from_residual.result)
-    (not_ok _ c.from_residual.result c.from_residual.ensures.1)
