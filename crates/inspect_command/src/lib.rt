@@ -3,6 +3,7 @@
 
 mod commands;
 mod json;
+mod memory;
 mod notes;
 mod on_file;
 mod remarks;

@@ -1,5 +1,6 @@
 //! The text that the command prints.
 
+use crate::memory::{Memory, memory_of};
 use crate::notes::push_remark;
 use crate::on_file::file_of;
 use crate::remarks::Remark;
@@ -104,6 +105,22 @@ fn push_sums(text: &mut String, sums: &Sums) -> Result<(), AllocError> {
     text.push('\n')
 }
 
+// Appends the line of the memory that commands take, unless the log has few bytes.
+fn push_memory(text: &mut String, memory: Option<Memory>) -> Result<(), AllocError> {
+    let Some(memory) = memory else {
+        return Ok(());
+    };
+    let Memory {
+        replay,
+        series,
+        cut,
+        unpacking,
+    } = memory;
+    write!(text, "memory replay {replay} MiB series {series} MiB")?;
+    write!(text, " cut {cut} MiB unpacking {unpacking} MiB")?;
+    text.push('\n')
+}
+
 // Appends the line of a remark.
 fn push_note(text: &mut String, remark: &Remark) -> Result<(), AllocError> {
     text.push_str("note ")?;
@@ -111,7 +128,7 @@ fn push_note(text: &mut String, remark: &Remark) -> Result<(), AllocError> {
     text.push('\n')
 }
 
-/// Returns a line for each file of a log, one for all of them, and one for each remark.
+/// Returns a line for each file of a log, one for all of them, one for the memory that commands take over a large log, and one for each remark.
 pub(crate) fn inspection_text(
     alloc: Global,
     inspection: &Inspection,
@@ -122,7 +139,9 @@ pub(crate) fn inspection_text(
     for file in files {
         push_file(&mut text, file)?;
     }
-    push_sums(&mut text, &sums_of(files)?)?;
+    let sums = sums_of(files)?;
+    push_sums(&mut text, &sums)?;
+    push_memory(&mut text, memory_of(&sums, files))?;
     for remark in remarks {
         push_note(&mut text, remark)?;
     }

@@ -16,3 +16,6 @@ mod Reduced
 mod PagesOn
 mod ReadOn
 pub mod UpTo
+mod FormsRead
+mod TextsOf
+mod TextsOn

@@ -11,6 +11,9 @@ pub mod LostLines
 pub mod RescueSteps
 pub mod Slots
 pub mod Sources
+pub mod TextFiles
+pub mod TextLogs
+pub mod FormLogs
 pub mod Metas
 pub mod Greatest
 pub mod Servers

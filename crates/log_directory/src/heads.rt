@@ -7,7 +7,7 @@ ghost use Rattle.log_directory.specs.Sources.{IsSourceIn};
 ghost use Rattle.store.specs.Views.{view_of};
 ghost use Rattle.answers.specs.Answers.{IsNoDamage};
 
-use crate::kept::{replay_log_at, replay_parts_at};
+use crate::kept::replay_form_at;
 use crate::source::{Source, read_source};
 use answers::{DamageLine, Fault, Flaw, LogForm};
 use head_core::Head;
@@ -80,30 +80,6 @@ pub fn undamaged_source<S: Store>(
     Ok(source)
 }
 
-// Replays the log in a directory, in this form, which is read before, to the head that keeps the samples of these times.
-fn undamaged_read_at<R: Threads + Wait + Sync, S: Store, P: Progress + Sync>(
-    rt: &R,
-    alloc: Global,
-    store: &S,
-    progress: &P,
-    dir: &str,
-    form: LogForm,
-    options: &Options,
-    times: Run,
-) -> Result<UndamagedLog, Fault>
-    ensures content { IfOk result (λ r. (log : Files) × IsSourceIn form (view_of (S.holds store.now)) dir.now log r.flaw × IsReplayedAt times log options.now.min_valid None r.head.content) }
-    ensures unhurt { IfOk result (λ r. IsNoDamage r.flaw) }
-    ensures sound { IfOk result (λ r. r.head.failed ≡ false) }
-{
-    let Source { log, flaw } = undamaged_source(alloc, store, dir, form)?;
-    let replayed = replay_log_at(rt, alloc, progress, &log, options, times)?;
-    check_whole(replayed.damage)?;
-    Ok(UndamagedLog {
-        head: replayed.head,
-        flaw,
-    })
-}
-
 /// Replays the log in a directory, in this form, to the head that keeps the samples of these times alone. All samples are judged and counted as if
 /// all were kept. It is read as by [`replay_in`](crate::replay_in). Returns `Damage` if the log is damaged. One of which parts are lost is not
 /// refused.
@@ -124,17 +100,11 @@ where
     ensures unhurt { IfOk result (λ r. IsNoDamage r.flaw) }
     ensures sound { IfOk result (λ r. r.head.failed ≡ false) }
 {
-    match form {
-        LogForm::Plain => {
-            let replayed = replay_parts_at(rt, alloc, store, progress, dir, options, times)?;
-            check_whole(replayed.damage)?;
-            Ok(UndamagedLog {
-                head: replayed.head,
-                flaw: None,
-            })
-        }
-        LogForm::Unpacked | LogForm::PastDamage => {
-            undamaged_read_at(rt, alloc, store, progress, dir, form, options, times)
-        }
-    }
+    let (replayed, own) = replay_form_at(rt, alloc, store, progress, dir, form, options, times)?;
+    check_undamaged(own)?;
+    check_whole(replayed.damage)?;
+    Ok(UndamagedLog {
+        head: replayed.head,
+        flaw: own,
+    })
 }

@@ -1,6 +1,5 @@
 //! Why the log in a directory can't be read on.
 
-ghost use Rattle.std.specs.Prelude.{◌≡◌};
 ghost use Rattle.answers.specs.Faults.{TellsNoDamage};
 
 use answers::Fault;
@@ -24,6 +23,14 @@ impl ReadFault {
     pub(crate) fn of_file(alloc: Global, path: &str, fault: StoreFault) -> ReadFault {
         match (fault, String::from_str(alloc, path)) {
             (StoreFault::Refused(reason), Ok(path)) => ReadFault::CannotRead { path, reason },
+            _ => ReadFault::OutOfMemory,
+        }
+    }
+
+    /// Returns the fault of a text that can't be made: of its file, or else out of memory.
+    pub(crate) fn of_text(fault: Fault) -> ReadFault {
+        match fault {
+            Fault::CannotRead { path, reason } => ReadFault::CannotRead { path, reason },
             _ => ReadFault::OutOfMemory,
         }
     }

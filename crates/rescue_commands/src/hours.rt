@@ -20,11 +20,14 @@ const MOST_HOURS: usize = 3;
 // The blocks that are in memory at once have about so many series together, unless it is one block.
 const MOST_SERIES: usize = 100_000;
 
-// Returns how many hours of a head are cut side by side.
-fn hours_at_once(head: &Head) -> usize
+// Returns how many hours of a head are cut side by side: one where memory is short, as it is in passes.
+fn hours_at_once(head: &Head, in_passes: bool) -> usize
     requires { head.now.failed ≡ false }
     ensures { 0 < result }
 {
+    if in_passes {
+        return 1;
+    }
     let series = head.series().max(1);
     (MOST_SERIES / series).clamp(1, MOST_HOURS)
 }
@@ -42,7 +45,7 @@ fn write_each<R: Threads + Sync, S: Store>(
     requires { head.now.failed ≡ false }
     ensures { HaveBlocks S.did S.holds shelf.now.out.now (IsBlockOfHead head.now.content) store.old hours.now (IsOk result) store.new }
 {
-    let at_once = hours_at_once(head);
+    let at_once = hours_at_once(head, run.is_in_passes());
     let mut rest = hours;
     while !rest.is_empty() {
         let (next, later) = rest.split_at(at_once.min(rest.len()));

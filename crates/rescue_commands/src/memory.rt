@@ -7,8 +7,11 @@ use std::alloc::Global;
 use std::str;
 use store::{PartStore, Store};
 
-/// How many bytes of memory a byte of compressed files takes, since they are unpacked before they are read.
+/// About how many bytes the text of a compressed file has for each byte of the file, at most.
 const UNPACKED: u64 = 3;
+
+/// How many bytes a server's segment has at most, unless it was told otherwise.
+const SEGMENT_BYTES: u64 = 128 << 20;
 
 /// How many bytes of memory a byte of a log takes at most where all its samples are kept. Only labels can take more.
 const KEPT: u64 = 10;
@@ -60,11 +63,21 @@ fn length_of<S: PartStore>(alloc: Global, store: &S, dir: &str) -> Result<u64, F
     }
 }
 
-// Returns how many bytes the text of a log takes that is in memory, if its files have this length.
-fn text_in_memory(form: LogForm, length: u64) -> u64 {
+// Returns about how many bytes a log has without compression, if its files have this length.
+fn plain_length(form: LogForm, length: u64) -> u64 {
+    match form {
+        LogForm::Plain => length,
+        LogForm::Unpacked | LogForm::PastDamage => length.saturating_mul(UNPACKED),
+    }
+}
+
+// Returns about how many bytes of memory a file takes while it is unpacked, and its text, if all files have this length.
+fn held(form: LogForm, length: u64) -> u64 {
     match form {
         LogForm::Plain => 0,
-        LogForm::Unpacked | LogForm::PastDamage => length.saturating_mul(UNPACKED),
+        LogForm::Unpacked | LogForm::PastDamage => {
+            length.min(SEGMENT_BYTES).saturating_mul(1 + UNPACKED)
+        }
     }
 }
 
@@ -78,9 +91,8 @@ pub(crate) fn budget_for<S: PartStore>(
         return Ok(None);
     };
     let length = length_of(alloc, store, request.dir)?;
-    let text = text_in_memory(request.form, length);
-    if text.max(length).saturating_mul(KEPT) <= memory {
+    if plain_length(request.form, length).saturating_mul(KEPT) <= memory {
         return Ok(None);
     }
-    Ok(Some(memory.saturating_sub(text)))
+    Ok(Some(memory.saturating_sub(held(request.form, length))))
 }

@@ -21,15 +21,12 @@ const SERIES_BYTES: u64 = 250;
 
 const LABEL_BYTES: u64 = 60;
 
-const SAMPLE_BYTES: u64 = 20;
+const SAMPLE_BYTES: u64 = 24;
 
-// About how many bytes of memory a block that is made takes for a label, and for a sample.
+// About how many bytes of memory a block that is made takes for a label, and for a sample. In passes one is made at a time.
 const BLOCK_LABEL_BYTES: u64 = 170;
 
 const BLOCK_SAMPLE_BYTES: u64 = 25;
-
-// The most blocks that are made side by side.
-const MOST_BLOCKS: u64 = 3;
 
 // The hours of a pass: how many, how many samples they have, and the one with the most.
 #[derive(Clone, Copy, Debug)]
@@ -58,12 +55,12 @@ impl Pass {
         }
     }
 
-    // Returns how many bytes of memory its samples and blocks take about, where series have so many labels together.
+    // Returns how many bytes of memory its samples and a block take about, where series have so many labels together.
     fn bytes(&self, labels: u64) -> u64 {
         let kept = self.samples.saturating_mul(SAMPLE_BYTES);
         let block = self.most.saturating_mul(BLOCK_SAMPLE_BYTES);
         let block = block.saturating_add(labels.saturating_mul(BLOCK_LABEL_BYTES));
-        kept.saturating_add(block.saturating_mul(self.hours.min(MOST_BLOCKS)))
+        kept.saturating_add(block)
     }
 }
 

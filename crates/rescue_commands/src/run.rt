@@ -65,6 +65,11 @@ impl<'a> Run<'a> {
         text
     }
 
+    /// Returns whether the hours are those of several passes over a log.
+    pub(crate) fn is_in_passes(&self) -> bool {
+        matches!(self.telling, Telling::Blocks { passes } if *passes > 1)
+    }
+
     /// Expects so many hours more, whose blocks come next.
     pub(crate) fn expect(&mut self, hours: usize) {
         self.expected = self.expected.saturating_add(hours);
