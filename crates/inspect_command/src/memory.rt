@@ -19,8 +19,8 @@ const SAMPLE_BYTES: u64 = 17;
 
 const CUT_SAMPLE_BYTES: u64 = 42;
 
-// About how many bytes of memory a byte of a file takes while it is unpacked.
-const UNPACKED_BYTES: u64 = 4;
+// About how many bytes of memory five bytes of a file take while it is unpacked, with its text.
+const UNPACKED_FIFTHS: u64 = 12;
 
 const HOUR: u64 = 3_600_000;
 
@@ -80,6 +80,6 @@ pub(crate) fn memory_of(sums: &Sums, files: &[FileSurvey]) -> Option<Memory> {
                 .saturating_mul(CUT_SAMPLE_BYTES)
                 .saturating_add(head),
         ),
-        unpacking: mebibytes(largest(files).saturating_mul(UNPACKED_BYTES)),
+        unpacking: mebibytes(largest(files).saturating_mul(UNPACKED_FIFTHS) / 5),
     })
 }
