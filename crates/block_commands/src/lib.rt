@@ -10,6 +10,7 @@ mod names;
 mod parts;
 mod ranges;
 mod report;
+mod stats;
 mod writing;
 
 pub use answers::{BlockRequest, CutRequest};
@@ -17,4 +18,5 @@ pub use commands::carry_out_block;
 pub use fault::of_cut;
 pub use names::new_name;
 pub use parts::read_parts;
+pub use stats::{Stats, stats_of};
 pub use writing::write_block;

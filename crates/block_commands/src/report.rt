@@ -4,7 +4,8 @@ ghost use Rattle.std.specs.Prelude.{◌≡◌, ◌++◌, IfOk, OnOk, string_byte
 ghost use Rattle.std.specs.List.{flat_map};
 ghost use Rattle.block_commands.specs.Printed.{range_line};
 
-use block_read::{BlockCounts, BlockRows, Encoding, counts_of};
+use crate::stats::Stats;
+use block_read::{BlockRows, Encoding, counts_of};
 use head_column::Hour;
 use std::alloc::{AllocError, Global};
 
@@ -27,11 +28,11 @@ pub fn ranges_text(alloc: Global, hours: &[Hour]) -> Result<String, AllocError>
     Ok(text)
 }
 
-/// Appends a line for each of a block's counts: samples, series and chunks.
-pub fn push_counts(text: &mut String, counts: &BlockCounts) -> Result<(), AllocError> {
-    writeln!(text, "samples {}", counts.samples)?;
-    writeln!(text, "series {}", counts.series)?;
-    writeln!(text, "chunks {}", counts.chunks)?;
+/// Appends a line for each count of a block: samples, series and chunks.
+pub fn push_stats(text: &mut String, stats: &Stats) -> Result<(), AllocError> {
+    writeln!(text, "samples {}", stats.samples)?;
+    writeln!(text, "series {}", stats.series)?;
+    writeln!(text, "chunks {}", stats.chunks)?;
     Ok(())
 }
 
@@ -45,7 +46,12 @@ pub fn block_text(
     let counts = counts_of(block.rows.as_slice());
     let (start, end) = block.hour.bounds();
     let mut text = format!(in alloc; "ulid {}\nrange {start} {end}\n", block.ulid)?;
-    push_counts(&mut text, &counts)?;
+    let stats = Stats {
+        samples: counts.samples,
+        series: counts.series,
+        chunks: counts.chunks,
+    };
+    push_stats(&mut text, &stats)?;
     writeln!(text, "hidden {}", counts.hidden)?;
     if encoding == Encoding::Xor {
         text.push_str("encoding xor\n")?;

@@ -65,7 +65,7 @@ fn assert_file<R: Abort>(
 #[test]
 fn segment_of_another_run(rt: HostRuntime) -> Result<(), StoreFault> {
     let acts = &[Act::Put("log/00000001", b"of another run")];
-    for call in 2..5 {
+    for call in 2..7 {
         let mut shelf = shelf_of(rt.alloc(), &APPEND)?;
         let left = (NOT_APPENDED, " 00000000 00000001");
         assert_beside(&rt, &APPEND, &mut shelf, (acts, call), left)?;
@@ -86,29 +86,29 @@ const OF_EARLIER: &[Act] = &[
     Act::Put("log/checkpoint.00000000/00000000", SERIES_1_JOB_API),
 ];
 
-// The claim is call 4, the look at the log call 9, and the renaming call 10.
+// The claim is call 6, the look at the log call 11, and the renaming call 12.
 const CHECKPOINTS: &[Beside] = &[
     (
         UNFINISHED,
-        (5, 9),
+        (7, 11),
         NOT_APPENDED,
         " 00000000 checkpoint.00000001.tmp",
     ),
     (
         OF_CLAIM,
-        (5, 9),
+        (7, 11),
         NOT_APPENDED,
         " 00000000 checkpoint.00000001",
     ),
     (
         OF_EARLIER,
-        (5, 9),
+        (7, 11),
         APPENDED,
         " 00000000 checkpoint.00000000 00000001",
     ),
     (
         UNFINISHED,
-        (10, 10),
+        (12, 12),
         APPENDED,
         " 00000000 checkpoint.00000001.tmp 00000001",
     ),
@@ -134,25 +134,25 @@ const LATER: &[Act] = &[Act::Put("log/00000002", SAMPLE_1_AT_1030)];
 // claim stays, as an empty segment. Without it the log would have a gap.
 #[test]
 fn later_segment_beside_append(rt: HostRuntime) -> Result<(), StoreFault> {
-    for call in 6..11 {
+    for call in 8..13 {
         let mut shelf = shelf_of(rt.alloc(), &APPEND)?;
         shelf.fail(call, UNSAID)?;
         let left = (NOT_APPENDED, " 00000000 00000001 00000002");
-        assert_beside(&rt, &APPEND, &mut shelf, (LATER, 5), left)?;
+        assert_beside(&rt, &APPEND, &mut shelf, (LATER, 7), left)?;
         assert_file(&rt, &shelf, "log/00000001", b"")?;
         assert_replay(&rt, &mut shelf, 1)?;
     }
     Ok(())
 }
 
-// The run gives up at its look, call 9, and the log cannot be listed then, by call 11: the claim stays, since a later segment may be there.
+// The run gives up at its look, call 11, and the log cannot be listed then, by call 13: the claim stays, since a later segment may be there.
 #[test]
 fn claim_of_a_log_that_cannot_be_listed(rt: HostRuntime) -> Result<(), StoreFault> {
     let mut shelf = shelf_of(rt.alloc(), &APPEND)?;
-    shelf.fail(11, UNSAID)?;
+    shelf.fail(13, UNSAID)?;
     let names = " 00000000 00000001 checkpoint.00000001.tmp";
     let left = (NOT_APPENDED, names);
-    assert_beside(&rt, &APPEND, &mut shelf, (UNFINISHED, 9), left)?;
+    assert_beside(&rt, &APPEND, &mut shelf, (UNFINISHED, 11), left)?;
     assert_replay(&rt, &mut shelf, 0)
 }
 

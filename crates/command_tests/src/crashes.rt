@@ -129,10 +129,10 @@ fn assert_log<R: Abort + Threads + Wait + Sync + AllocGlobal>(
     Ok(())
 }
 
-// There are 11 calls.
+// There are 13 calls.
 #[test]
 fn crash_at_each_call_of_append(rt: HostRuntime) -> Result<(), StoreFault> {
-    for call in 1..13 {
+    for call in 1..15 {
         for kept in WAYS {
             assert_log(&rt, (call, *kept))?;
         }

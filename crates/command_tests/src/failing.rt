@@ -285,23 +285,25 @@ const APPENDED: Left = (0, "accepted\nsegment 00000001\n", "");
 
 const NOT_WRITTEN: Left = (3, "", "cannot write log/00000001");
 
-// The log is listed, its segment and the rows are read, the segment is claimed, what a killed run may have left is taken away, the file
-// beside the segment is made, written and synced, the log is listed, the file takes the segment's place, and the directory is synced. Where
-// one of the last six fails, the file beside the segment is taken away, the log is listed, and the claim is taken away.
+// The log is listed, its segment is opened, and then opened again and read, the rows are read, the segment is claimed, what a killed run may have
+// left is taken away, the file beside the segment is made, written and synced, the log is listed, the file takes the segment's place, and the
+// directory is synced. Where one of the last six fails, the file beside the segment is taken away, the log is listed, and the claim is taken away.
 const CALLS_OF_APPEND: &[(u64, Left, Left, u64)] = &[
     (1, (3, "", "cannot read log"), OUT_OF_MEMORY, 1),
     (2, (3, "", "cannot read log/00000000"), OUT_OF_MEMORY, 2),
-    (3, (3, "", "cannot read rows"), OUT_OF_MEMORY, 3),
-    (4, NOT_WRITTEN, OUT_OF_MEMORY, 4),
-    (5, APPENDED, APPENDED, 11),
-    (6, NOT_WRITTEN, OUT_OF_MEMORY, 9),
-    (7, NOT_WRITTEN, OUT_OF_MEMORY, 10),
+    (3, (3, "", "cannot read log/00000000"), OUT_OF_MEMORY, 3),
+    (4, (3, "", "cannot read log/00000000"), OUT_OF_MEMORY, 4),
+    (5, (3, "", "cannot read rows"), OUT_OF_MEMORY, 5),
+    (6, NOT_WRITTEN, OUT_OF_MEMORY, 6),
+    (7, APPENDED, APPENDED, 13),
     (8, NOT_WRITTEN, OUT_OF_MEMORY, 11),
     (9, NOT_WRITTEN, OUT_OF_MEMORY, 12),
     (10, NOT_WRITTEN, OUT_OF_MEMORY, 13),
     (11, NOT_WRITTEN, OUT_OF_MEMORY, 14),
+    (12, NOT_WRITTEN, OUT_OF_MEMORY, 15),
+    (13, NOT_WRITTEN, OUT_OF_MEMORY, 16),
     // there is no such call
-    (12, APPENDED, APPENDED, 11),
+    (14, APPENDED, APPENDED, 13),
 ];
 
 // Ends the test unless to append leaves this where a call fails, and the segment is there just where it was appended.

@@ -14,7 +14,7 @@ use wal_log::text_reads;
 /// Proves that the log of all that can be read of a directory of a store has just the records of the stretches of its files, one file after another, those of the
 /// newest checkpoint first.
 ///
-/// `read_rescued` ensures `IsRescuedLogIn` of the log that `rescue` replays. By the clauses `records` and `rescued` of `however_dealt` such a log
+/// `rescued_head` ensures `IsRescuedLogIn` of the log that `rescue` replays. By the clauses `records` and `rescued` of `however_dealt` such a log
 /// reads as these records, without damage, and all logs that have these records have the same blocks. So each byte of the blocks of `rescue` is
 /// defined by the records of the stretches, however the work was dealt.
 pub fn stretches_read<S: Store>(_store: &S, _dir: &str)

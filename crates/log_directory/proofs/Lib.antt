@@ -19,3 +19,4 @@ pub mod UpTo
 mod FormsRead
 mod TextsOf
 mod TextsOn
+mod NextNumber

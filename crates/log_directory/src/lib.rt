@@ -41,7 +41,9 @@ mod unpacking;
 
 pub use directory::{names_in, read_in, read_log, read_paths, read_planned_file};
 pub use flaws::{flaw_of_reads, lost_count};
-pub use heads::{UndamagedLog, undamaged_at, undamaged_head, undamaged_source};
+pub use heads::{
+    RescuedHead, UndamagedLog, rescued_head, undamaged_at, undamaged_head, undamaged_source,
+};
 pub use kept::replay_at_in;
 pub use listed_files::{PartFile, read_listed};
 pub use listing::{Listing, list_files, list_log};

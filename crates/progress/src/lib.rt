@@ -9,6 +9,6 @@ mod meter;
 mod pacer;
 
 pub use extent::Extent;
-pub use gate::{Progress, extent_of};
+pub use gate::Progress;
 pub use laws::progress_lines;
 pub use meter::Meter;

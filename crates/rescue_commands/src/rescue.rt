@@ -12,12 +12,12 @@ use crate::run::Run;
 use answers::{Answer, Fault, RescueRequest};
 use block_read::Ulid;
 use head_core::{Counts, Head};
-use log_directory::{FileRead, RescuedLog, flaw_of_reads, read_rescued, undamaged_head};
+use log_directory::{FileRead, RescuedHead, rescued_head};
 use progress::Progress;
 use std::alloc::Global;
 use std::sync::Wait;
 use std::thread::Threads;
-use store::Store;
+use store::{PartStore, Store};
 
 // Returns the data directory whose blocks gave the least valid time, if they gave one.
 fn data_of<'a>(request: &RescueRequest<'a>) -> Option<&'a str> {
@@ -59,22 +59,24 @@ fn write_rescued<R: Threads + Sync, S: Store>(
 }
 
 // Carries out a request, or returns why it failed.
-fn execute<R: Threads + Wait + Sync, S: Store, P: Progress + Sync>(
+fn execute<R: Threads + Wait + Sync, S: PartStore + Sync, P: Progress + Sync>(
     rt: &R,
     alloc: Global,
     store: &mut S,
     progress: &P,
     request: RescueRequest<'_>,
 ) -> Result<Answer, Fault>
+where
+    S::Reader: Send,
+    S::Writer: Send,
     ensures crash { RescuesBlocks S.did S.holds store.old request.entry (IsOk result) (λ own. IfOk result (λ answer. TellsLost answer own)) store.new }
     ensures done { IfOk result (λ answer. answer.status ≡ Done → answer.fault ≡ None) }
 {
     let Ok(ulid) = Ulid::new(request.ulid) else {
         return Err(Fault::BadUlid);
     };
-    let RescuedLog { log, files } = read_rescued(alloc, store, request.dir)?;
-    let flaw = flaw_of_reads(&files)?;
-    let head = undamaged_head(rt, alloc, progress, log, &request.options)?;
+    let log = rescued_head(rt, alloc, store, progress, request.dir, &request.options)?;
+    let RescuedHead { head, flaw, files } = log;
     let text = write_rescued(rt, alloc, store, &head, request, ulid, files)?;
     Ok(Answer::up_to(text, flaw))
 }
@@ -82,13 +84,16 @@ fn execute<R: Threads + Wait + Sync, S: Store, P: Progress + Sync>(
 /// Carries out a request: writes a block for each hour of all that can be read of a log, and says which, what was read of each file and what is
 /// lost. Nothing is written if the name that is given is not a ULID. Where it fails, the blocks of the hours before are written, and a later run
 /// leaves them.
-pub fn carry_out_rescue<R: Threads + Wait + Sync, S: Store, P: Progress + Sync>(
+pub fn carry_out_rescue<R: Threads + Wait + Sync, S: PartStore + Sync, P: Progress + Sync>(
     rt: &R,
     alloc: Global,
     store: &mut S,
     progress: &P,
     request: RescueRequest<'_>,
 ) -> Answer
+where
+    S::Reader: Send,
+    S::Writer: Send,
     ensures crash { RescuesBlocks S.did S.holds store.old request.entry (IsWell result) (TellsLost result) store.new }
     // Status 0 is that of a run after which no fault is reported.
     ensures done { result.status ≡ Done → result.fault ≡ None }
