@@ -4,7 +4,7 @@ use Rattle.std.specs.Prelude.{ℤ, Option, None, Some, nat_lt, cond}
 use Rattle.std.proofs.lemmas.List.{length-append, length-take}
 use Rattle.std.proofs.lemmas.List.Elements.{All-append, All-cons, All-nil}
 use Rattle.hw_bytes.specs.Writing.{big_bytes, uvarint, uvarint_in}
-use Rattle.head_column.specs.declared.items.Sample.{Sample}
+use Rattle.head_column.specs.Samples.{Sample}
 use Rattle.head_column.specs.declared.chunk.Chunk.{Chunk}
 use Rattle.head_column.specs.Chunks.{chunk_text, parts_in, sample_text, samples_text, time_text, value_text}
 use Rattle.xor_chunk.specs.Chunks.{xor_text}

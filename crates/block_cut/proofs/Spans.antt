@@ -5,11 +5,11 @@ use Rattle.std.specs.List.{AllByRecursion, flat_map, sum_by}
 use Rattle.std.proofs.lemmas.Int.{ints}
 use Rattle.std.proofs.lemmas.List.{length-append}
 use Rattle.std.proofs.lemmas.List.Sums.{sum_by-cons}
-use Rattle.head_column.specs.declared.items.Sample.{Sample}
+use Rattle.head_column.specs.Samples.{Sample}
 use Rattle.head_column.specs.declared.chunk.Chunk.{Chunk}
 use Rattle.head_column.specs.Chunks.{AreFull, chunk_samples, first_time, last_time, parts}
 use Rattle.head_column.specs.Samples.{Rises}
-use Rattle.head_column.proofs.Parts.{parts_are}
+use Rattle.xor_chunk.proofs.Parts.{parts_are}
 use Rattle.index_text.specs.Rows.{IsChain}
 use Rattle.block_files.specs.declared.encoding.Encoding.{Encoding}
 use Rattle.block_read.specs.Blocks.{chunk_in, chunks_in}

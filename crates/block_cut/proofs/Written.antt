@@ -10,7 +10,7 @@ use Rattle.std.proofs.lemmas.List.Sums.{sum_by-cons}
 use Rattle.hw_bytes.specs.Lists.{along}
 use Rattle.wal_record.specs.Labels.{Labels, compare_labels}
 use Rattle.head_column.specs.declared.items.Run.{Run}
-use Rattle.head_column.specs.declared.items.Sample.{Sample}
+use Rattle.head_column.specs.Samples.{Sample}
 use Rattle.head_column.specs.declared.chunk.Chunk.{Chunk}
 use Rattle.head_column.specs.Chunks.{chunk_samples, parts}
 use Rattle.hw_bytes.specs.declared.write_fault.WriteFault.{WriteFault}

@@ -1,6 +1,6 @@
 -- The hours that can be cut.
 use Rattle.std.specs.Prelude.{◌≡◌, ℤ, ◌<ℤ◌, List, [], ◌∷◌, Some, Contains, IsTrue}
-use Rattle.head_column.specs.declared.items.Sample.{Sample}
+use Rattle.head_column.specs.Samples.{Sample}
 use Rattle.head_column.specs.Histories.{History}
 use Rattle.head_column.specs.Hours.{IsEdge, is_in_hour}
 use Rattle.head_core.specs.Content.{Content}

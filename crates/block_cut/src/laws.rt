@@ -5,7 +5,7 @@ ghost use Rattle.wal_log.specs.Inputs.{Files};
 ghost use Rattle.wal_log.specs.Log.{IsReading, contents};
 ghost use Rattle.wal_log.specs.declared.reading.Damage.{Damage as LogDamage};
 ghost use Rattle.wal_log.specs.declared.reading.Placed.{Placed as PlacedRecord};
-ghost use Rattle.head_column.specs.declared.items.Sample.{Sample};
+ghost use Rattle.head_column.specs.Samples.{Sample};
 ghost use Rattle.head_column.specs.Histories.{History};
 ghost use Rattle.head_column.specs.Hours.{IsEdge, is_in_hour};
 ghost use Rattle.head_resolver.specs.Taken.{taken_of};

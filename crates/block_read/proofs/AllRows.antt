@@ -6,7 +6,7 @@ use Rattle.std.proofs.lemmas.List.Elements.{All-head, All-tail}
 use Rattle.std.proofs.lemmas.Grind.{flat_map-append}
 use Rattle.hw_bytes.specs.Lists.{along}
 use Rattle.hw_bytes.proofs.Lists.{along-push, flat_map-push, map_push}
-use Rattle.head_column.specs.declared.items.Sample.{Sample}
+use Rattle.head_column.specs.Samples.{Sample}
 use Rattle.head_column.specs.declared.chunk.Chunk.{Chunk}
 use Rattle.head_column.specs.Chunks.{chunk_samples, parts}
 use Rattle.hw_bytes.specs.Sums.{Text}

@@ -9,7 +9,7 @@ use Rattle.std.proofs.lemmas.List.{length-map}
 use Rattle.std.proofs.lemmas.List.Elements.{All-weaker}
 use Rattle.wal_record.specs.Labels.{IsLabelSet, compare_labels}
 use Rattle.head_column.specs.declared.items.Run.{Run}
-use Rattle.head_column.specs.declared.items.Sample.{Sample}
+use Rattle.head_column.specs.Samples.{Sample}
 use Rattle.head_column.specs.Hours.{IsEdge, hour_start}
 use Rattle.head_column.specs.Runs.{AreApart}
 use Rattle.head_column.proofs.HourLaws.{above_least, below_greatest, inside}

@@ -9,11 +9,11 @@ use Rattle.std.specs.List.{All, flat_map}
 use Rattle.std.proofs.lemmas.List.{append-nil, length-append, length-drop}
 use Rattle.std.proofs.lemmas.List.Elements.{All-append, All-nil, All-cons}
 use Rattle.hw_bytes.proofs.Lists.{flat_map-push, map_push}
-use Rattle.head_column.specs.declared.items.Sample.{Sample}
+use Rattle.head_column.specs.Samples.{Sample}
 use Rattle.head_column.specs.declared.chunk.Chunk.{Chunk}
 use Rattle.head_column.specs.Samples.{Rises}
 use Rattle.head_column.specs.Chunks.{AreFull, IsChunk, IsFit, chunk_samples, first_time, last_time, parts, samples_text, time_text, value_text}
-use Rattle.head_column.proofs.Parts.{one_parts, parts_are}
+use Rattle.xor_chunk.proofs.Parts.{one_parts, parts_are}
 use Rattle.hw_bytes.specs.Sums.{Text}
 use Rattle.index_text.specs.declared.row.ChunkMeta.{ChunkMeta}
 use Rattle.xor_chunk.specs.Chunks.{xor_text}

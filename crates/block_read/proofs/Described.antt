@@ -8,13 +8,13 @@ use Rattle.std.proofs.lemmas.List.{length-append, length-map, take_more}
 use Rattle.std.proofs.lemmas.List.Elements.{All-get_or}
 use Rattle.hw_bytes.proofs.Lists.{flat_map-push}
 use Rattle.head_column.specs.declared.items.Run.{Run}
-use Rattle.head_column.specs.declared.items.Sample.{Sample}
+use Rattle.head_column.specs.Samples.{Sample}
 use Rattle.head_column.specs.declared.chunk.Chunk.{Chunk}
 use Rattle.block_files.specs.declared.encoding.Encoding.{Encoding}
 use Rattle.head_column.specs.Chunks.{AreFull, chunk_samples, parts}
 use Rattle.head_column.specs.Hours.{HasTime, IsEdge, hour_start, is_in_hour}
 use Rattle.head_column.proofs.HourLaws.{between, is_first, is_last, one_hour}
-use Rattle.head_column.proofs.Parts.{parts_are}
+use Rattle.xor_chunk.proofs.Parts.{parts_are}
 use Rattle.block_files.specs.Files.{all_texts, row_texts}
 use Rattle.block_files.proofs.RowLaws.{whole}
 use Rattle.block_read.specs.Blocks.{IsColumn, IsWithin, chunk_count, chunk_in, chunks_in, chunks_of_rows}

@@ -4,7 +4,7 @@ use Rattle.std.specs.List.{flat_map, sum_by, zip}
 use Rattle.std.proofs.lemmas.List.{length-append, length-map}
 use Rattle.std.proofs.lemmas.List.Sums.{sum_by-cons}
 use Rattle.hw_bytes.specs.Lists.{along}
-use Rattle.head_column.specs.declared.items.Sample.{Sample}
+use Rattle.head_column.specs.Samples.{Sample}
 use Rattle.head_column.specs.declared.chunk.Chunk.{Chunk}
 use Rattle.head_column.specs.Chunks.{chunk_samples, parts}
 use Rattle.hw_bytes.specs.Sums.{Text}

@@ -11,11 +11,11 @@ use Rattle.std.proofs.lemmas.List.Sums.{fold-append}
 use Rattle.hw_bytes.specs.Lists.{along}
 use Rattle.hw_bytes.proofs.Lists.{flat_map-push}
 use Rattle.wal_record.specs.Labels.{IsLabelSet, compare_labels}
-use Rattle.head_column.specs.declared.items.Sample.{Sample}
+use Rattle.head_column.specs.Samples.{Sample}
 use Rattle.head_column.specs.declared.chunk.Chunk.{Chunk}
 use Rattle.head_column.specs.Samples.{Rises}
 use Rattle.head_column.specs.Chunks.{AreFull, IsFit, chunk_samples, first_time, last_time, parts}
-use Rattle.head_column.proofs.Parts.{parts_are}
+use Rattle.xor_chunk.proofs.Parts.{parts_are}
 use Rattle.hw_bytes.specs.Sums.{Text}
 use Rattle.index_text.specs.declared.row.ChunkMeta.{ChunkMeta}
 use Rattle.index_text.specs.declared.row.IndexRow.{IndexRow}

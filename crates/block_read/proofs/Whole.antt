@@ -2,7 +2,7 @@
 use Rattle.std.proofs.Common.{◌≡◌, ℕ, List, map, sym, ap, subst, ◌∙◌}
 use Rattle.hw_bytes.specs.Sums.{Text}
 use Rattle.head_column.specs.declared.items.Run.{Run}
-use Rattle.head_column.specs.declared.items.Sample.{Sample}
+use Rattle.head_column.specs.Samples.{Sample}
 use Rattle.index_text.specs.declared.row.IndexRow.{IndexRow}
 use Rattle.index_text.specs.Index.{series_ids}
 use Rattle.index_text.specs.Rows.{IsIndex}

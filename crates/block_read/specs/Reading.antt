@@ -1,7 +1,7 @@
 -- Words of private functions and of proofs: the parts of a block while it is read.
 use Rattle.std.specs.Prelude.{◌≡◌, ℕ, ℤ, pos, ◌+ℤ◌, All, IsTrue, ◌<◌, ◌%◌, ◌<ℤ◌, List, [], ◌∷◌, length, map}
 use Rattle.std.specs.List.{AllByRecursion, flat_map, zip}
-use Rattle.head_column.specs.declared.items.Sample.{Sample}
+use Rattle.head_column.specs.Samples.{Sample}
 use Rattle.head_column.specs.Chunks.{chunk_samples, first_time, last_time}
 use Rattle.hw_bytes.specs.Sums.{Text}
 use Rattle.index_text.specs.declared.row.ChunkMeta.{ChunkMeta}

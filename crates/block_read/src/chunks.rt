@@ -1,7 +1,7 @@
 //! Reading the chunks of a row.
 
 ghost use Rattle.std.specs.Prelude.{◌≡◌, ◌<◌, All, List, length, Err, IfOk, IsTrue};
-ghost use Rattle.head_column.specs.declared.items.Sample.{Sample as Entry};
+ghost use Rattle.head_column.specs.Samples.{Sample as Entry};
 ghost use Rattle.head_column.specs.Chunks.{IsChunk, IsFit, chunk_samples, first_time, last_time, parts};
 ghost use Rattle.head_column.specs.Samples.{Rises};
 ghost use Rattle.xor_chunk.specs.Chunks.{xor_text};

@@ -5,7 +5,7 @@ ghost use Rattle.block_files.specs.declared.encoding.Encoding.{Encoding as Chunk
 ghost use Rattle.block_files.specs.Files.{StandsAt};
 ghost use Rattle.hw_bytes.specs.Sums.{Text};
 ghost use Rattle.head_column.specs.declared.items.Run.{Run as HiddenRun};
-ghost use Rattle.head_column.specs.declared.items.Sample.{Sample as Entry};
+ghost use Rattle.head_column.specs.Samples.{Sample as Entry};
 ghost use Rattle.index_text.specs.declared.fault.ReadFault.{ReadFault};
 ghost use Rattle.index_text.specs.declared.row.IndexRow.{IndexRow as Row};
 ghost use Rattle.index_text.specs.Reading.{Answers, front_of};

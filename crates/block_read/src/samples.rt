@@ -3,7 +3,7 @@
 ghost use Rattle.std.specs.Prelude.{◌≡◌, ◌≤◌, ◌^◌, ◌++◌, ◌∷◌, [], List, length, map, Err, IfOk, IsTrue};
 ghost use Rattle.std.specs.List.{zip};
 ghost use Rattle.hw_bytes.specs.Sums.{Text};
-ghost use Rattle.head_column.specs.declared.items.Sample.{Sample as Entry};
+ghost use Rattle.head_column.specs.Samples.{Sample as Entry};
 ghost use Rattle.head_column.specs.Chunks.{chunk_samples, parts};
 ghost use Rattle.block_files.specs.Files.{row_texts};
 ghost use Rattle.block_read.specs.Blocks.{HasSamples, IsColumn, chunks_in, file_limit, meta_of};

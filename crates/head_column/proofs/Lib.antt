@@ -15,6 +15,6 @@ pub mod SampleCodes
 pub mod Texts
 pub mod Windows
 pub mod Greatest
-pub mod Parts
-pub mod Flat
 pub mod Fronts
+pub mod Chunked
+pub mod Copied

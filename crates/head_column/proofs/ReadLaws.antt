@@ -13,7 +13,7 @@ use Rattle.hw_bytes.specs.Writing.{big_bytes}
 use Rattle.hw_bytes.proofs.Codes.{after}
 use Rattle.hw_bytes.proofs.Fixed.{fixed_code}
 use Rattle.hw_bytes.proofs.Shortest.{uvarint_shortest, varint_shortest}
-use Rattle.head_column.specs.declared.items.Sample.{Sample}
+use Rattle.xor_chunk.specs.declared.sample.Sample.{Sample}
 use Rattle.head_column.specs.Samples.{Rises}
 use Rattle.head_column.specs.Chunks.{IsFit, IsChunk, time_text, value_text, sample_text, samples_text, chunk_text}
 use Rattle.head_column.specs.Reading.{IsPast, IsTime, IsSample, RisesPast, HaveText, AreRead}

@@ -5,7 +5,7 @@ use Rattle.std.proofs.lemmas.Bool.{or_parts}
 use Rattle.std.proofs.lemmas.Int.{ints}
 use Rattle.std.proofs.lemmas.List.Folds.{list_any-append}
 use Rattle.hw_bytes.proofs.Lists.{by_push, map_push, fold-push}
-use Rattle.head_column.specs.declared.items.Sample.{Sample}
+use Rattle.xor_chunk.specs.declared.sample.Sample.{Sample}
 use Rattle.head_column.specs.Samples.{Rises}
 use Rattle.head_column.specs.Times.{later, greatest, reaches}
 use Rattle.head_column.specs.Histories.{has_reached, latest}

@@ -10,7 +10,7 @@ use Rattle.hw_bytes.proofs.Codes.{after, take_then}
 use Rattle.hw_bytes.proofs.Fixed.{fixed_code}
 use Rattle.hw_bytes.proofs.Groups.{uvarint_code}
 use Rattle.hw_bytes.proofs.Varints.{varint_code}
-use Rattle.head_column.specs.declared.items.Sample.{Sample}
+use Rattle.xor_chunk.specs.declared.sample.Sample.{Sample}
 use Rattle.head_column.specs.Reading.{IsStep, IsTime, IsSample}
 
 fixed_eight : IsCode (IsFixed 8)

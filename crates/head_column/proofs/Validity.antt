@@ -5,7 +5,7 @@ use Rattle.std.specs.Int.{int_max}
 use Rattle.std.proofs.lemmas.Int.{ints}
 use Rattle.std.proofs.lemmas.List.Elements.{filter-append}
 use Rattle.hw_bytes.proofs.Lists.{along-push, append_none, by_push, flat_map-push, fold-push}
-use Rattle.head_column.specs.declared.items.Sample.{Sample}
+use Rattle.xor_chunk.specs.declared.sample.Sample.{Sample}
 use Rattle.head_column.specs.declared.items.Run.{Run}
 use Rattle.head_column.specs.declared.items.Item.{Item}
 use Rattle.head_column.specs.declared.items.Item.TheVariants as item

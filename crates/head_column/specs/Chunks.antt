@@ -1,16 +1,14 @@
 -- Chunks: the text of some samples, and how samples are cut into chunks.
-use Rattle.std.specs.Prelude.{◌≡◌, ℕ, zero, suc, ◌<◌, ◌≤◌, ℤ, pos, ◌-ℤ◌, unsigned_abs, FitsSigned, List, [], ◌∷◌, ◌++◌, length, map, take, drop, Option, Some, None}
+use Rattle.std.specs.Prelude.{ℕ, ◌<◌, ◌≤◌, ℤ, pos, ◌-ℤ◌, unsigned_abs, List, [], ◌∷◌, ◌++◌, length, map, Option, Some, None}
 use Rattle.std.specs.Int.{cast_unsigned, w64}
-use Rattle.std.specs.List.{All, flat_map}
+use Rattle.std.specs.List.{All}
 use Rattle.hw_bytes.specs.Writing.{big_bytes, uvarint, varint}
-use Rattle.head_column.specs.declared.items.Sample.{Sample}
+use Rattle.xor_chunk.specs.declared.sample.Sample.{Sample}
+use Rattle.xor_chunk.specs.Chunks.{xor_text}
 use Rattle.head_column.specs.declared.chunk.Chunk.{Chunk}
 use Rattle.head_column.specs.Samples.{Rises}
-
--- the numbers of the sample fit in 64 bits
-pub record IsFit (s : Sample) : Type 0 where
-  pub time : FitsSigned w64 s.time
-  pub value : FitsSigned w64 s.value
+pub use Rattle.xor_chunk.specs.Samples.{IsFit}
+pub use Rattle.xor_chunk.specs.Parts.{AreFull, ArePartsOf, parts, parts_in}
 
 -- the number of samples of a chunk; the last one of an hour may have fewer
 abbrev pub chunk_samples : ℕ
@@ -45,27 +43,6 @@ samples_text before (s ∷ rest) = sample_text before s ++ samples_text (Some s.
 abbrev pub chunk_text : List Sample → List ℕ
 chunk_text samples = big_bytes 2 (length samples) ++ samples_text None samples
 
--- the first k parts of n elements, the last part perhaps shorter
-abbrev pub parts_in : {A : Type 0} → ℕ → ℕ → List A → List (List A)
-parts_in zero n xs = []
-parts_in (suc k) n [] = []
-parts_in (suc k) n (x ∷ xs) = take n (x ∷ xs) ∷ parts_in k n (drop n (x ∷ xs))
-
--- a list in parts of n elements, the last part perhaps shorter: the only list of parts that is `ArePartsOf`
-abbrev pub parts : {A : Type 0} → ℕ → List A → List (List A)
-parts n xs = parts_in (length xs) n xs
-
--- each part but the last has n elements, and the last one has 1 to n
-abbrev pub AreFull : {A : Type 0} → ℕ → List (List A) → Type 0
-AreFull n [] = Unit {0}
-AreFull n (p ∷ []) = (0 < length p) × (length p ≤ n)
-AreFull n (p ∷ q ∷ more) = (length p ≡ n) × AreFull n (q ∷ more)
-
--- the parts, joined again, are the list
-pub record ArePartsOf {A : Type 0} (n : ℕ) (xs : List A) (ps : List (List A)) : Type 0 where
-  pub joined : flat_map (λ p. p) ps ≡ xs
-  pub full : AreFull n ps
-
 abbrev pub first_time : List Sample → ℤ
 first_time [] = pos 0
 first_time (s ∷ rest) = s.time
@@ -81,3 +58,11 @@ chunk_of samples = record { min_time = first_time samples; max_time = last_time 
 -- the chunks of some samples: `chunk_samples` to a chunk, perhaps fewer in the last
 abbrev pub chunks_of : List Sample → List Chunk
 chunks_of samples = map chunk_of (parts chunk_samples samples)
+
+-- a server's chunk of some samples
+abbrev pub xor_chunk_of : List Sample → Chunk
+xor_chunk_of samples = record { min_time = first_time samples; max_time = last_time samples; count = length samples; text = xor_text samples }
+
+-- the same cut, as a server's chunks
+abbrev pub xor_chunks_of : List Sample → List Chunk
+xor_chunks_of samples = map xor_chunk_of (parts chunk_samples samples)

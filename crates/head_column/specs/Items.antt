@@ -2,7 +2,7 @@
 use Rattle.std.specs.Prelude.{ℤ, Bool, false, List, [], ◌∷◌, int_le, if◌then◌else◌}
 use Rattle.std.specs.List.{list_any}
 use Rattle.hw_bytes.specs.Lists.{along}
-use Rattle.head_column.specs.declared.items.Sample.{Sample}
+use Rattle.xor_chunk.specs.declared.sample.Sample.{Sample}
 use Rattle.head_column.specs.declared.items.Item.{Item}
 use Rattle.head_column.specs.declared.items.Item.TheVariants as item
 use Rattle.head_column.specs.declared.items.Outcome.{Outcome}

@@ -1,6 +1,6 @@
 -- Series of which only the samples of some times are kept.
 use Rattle.std.specs.Prelude.{ℤ, List, [], ◌∷◌, ◌++◌, Option, Some, filter, if◌then◌else◌}
-use Rattle.head_column.specs.declared.items.Sample.{Sample}
+use Rattle.xor_chunk.specs.declared.sample.Sample.{Sample}
 use Rattle.head_column.specs.declared.items.Run.{Run}
 use Rattle.head_column.specs.declared.items.Item.{Item}
 use Rattle.head_column.specs.declared.items.Item.TheVariants as item

@@ -3,7 +3,7 @@ use Rattle.std.specs.Prelude.{◌≡◌, ℕ, ℤ, ◌-ℤ◌, ◌<ℤ◌, unsig
 use Rattle.std.specs.Int.{cast_unsigned, w64}
 use Rattle.std.specs.List.{All}
 use Rattle.hw_bytes.specs.Numbers.{IsFixed, IsUvarint, IsVarint}
-use Rattle.head_column.specs.declared.items.Sample.{Sample}
+use Rattle.xor_chunk.specs.declared.sample.Sample.{Sample}
 use Rattle.head_column.specs.Samples.{Rises}
 use Rattle.head_column.specs.Chunks.{IsFit, samples_text}
 

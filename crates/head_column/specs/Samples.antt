@@ -1,6 +1,6 @@
 -- Samples in the order of their times.
 use Rattle.std.specs.Prelude.{◌<ℤ◌, List, [], ◌∷◌}
-use Rattle.head_column.specs.declared.items.Sample.{Sample}
+pub use Rattle.xor_chunk.specs.declared.sample.Sample.{Sample}
 
 -- each time is greater than the one before it
 abbrev pub Rises : List Sample → Type 0

@@ -1,9 +1,9 @@
 -- What the least valid time m, in milliseconds, leaves of the items of one series and of its history. A sample is expired if its time
 -- is less than m, a deletion if its greatest time is less than m.
-use Rattle.std.specs.Prelude.{ℤ, ◌≤ℤ◌, List, [], ◌∷◌, Option, None, filter, int_le, if◌then◌else◌}
+use Rattle.std.specs.Prelude.{ℤ, ◌≤ℤ◌, List, [], ◌∷◌, Option, None, filter, int_le, int_lt, if◌then◌else◌}
 use Rattle.std.specs.Int.{int_max}
 use Rattle.std.specs.List.{flat_map}
-use Rattle.head_column.specs.declared.items.Sample.{Sample}
+use Rattle.xor_chunk.specs.declared.sample.Sample.{Sample}
 use Rattle.head_column.specs.declared.items.Run.{Run}
 use Rattle.head_column.specs.declared.items.Item.{Item}
 use Rattle.head_column.specs.declared.items.Item.TheVariants as item
@@ -36,6 +36,10 @@ item_from m (item.Stone r) = item.Stone (raised m r)
 -- the samples whose times are not before m
 abbrev pub samples_from : ℤ → List Sample → List Sample
 samples_from m samples = filter (λ s. int_le m s.time) samples
+
+-- the samples whose times are before m
+abbrev pub samples_before : ℤ → List Sample → List Sample
+samples_before m samples = filter (λ s. int_lt s.time m) samples
 
 -- the run without its times before m, or nothing if it ends before m
 abbrev pub run_from : ℤ → Run → List Run

@@ -1,6 +1,6 @@
 //! A series, built item by item.
 
-ghost use Rattle.std.specs.Prelude.{◌≡◌, ◌+◌, ◌<◌, ◌≤◌, ◌∷◌, ◌++◌, [], ℕ, All, List, IfOk, IsOk, OnErr, OnOk, filter, length};
+ghost use Rattle.std.specs.Prelude.{◌≡◌, ◌+◌, ◌<◌, ◌≤◌, ◌∷◌, ◌++◌, [], All, List, IfOk, IsOk, OnErr, OnOk, filter, length};
 ghost use Rattle.head_column.specs.declared.items.Item.{Item as AnItem};
 ghost use Rattle.head_column.specs.declared.items.Outcome.TheVariants.{Stale, EmptyStone};
 ghost use Rattle.head_column.specs.Histories.{IsHistoryOf, has_reached, history_after, history_outcome, latest, no_history};
@@ -8,13 +8,13 @@ ghost use Rattle.head_column.specs.Items.{outcome_of};
 ghost use Rattle.head_column.specs.Runs.{AreApart};
 ghost use Rattle.head_column.specs.Samples.{Rises};
 ghost use Rattle.head_column.specs.Hours.{is_in_hour};
-ghost use Rattle.head_column.specs.Chunks.{IsFit, chunks_of};
+ghost use Rattle.head_column.specs.Chunks.{IsFit, chunks_of, xor_chunks_of};
 ghost use Rattle.head_column.specs.Validity.{history_from, valid_items};
 
-use crate::cutting::cut_chunks;
-use crate::lists::SampleLists;
+use crate::cutting::{cut_chunks, xor_chunks};
 use crate::runs::{cut, merge};
-use crate::times::{latest_from, reaches};
+use crate::stored::SampleChunks;
+use crate::times::reaches;
 use crate::{Chunk, Hour, Item, Outcome, Run, Sample};
 use head_deal::Builder;
 use std::alloc::{AllocError, Global};
@@ -35,10 +35,8 @@ pub(crate) fn fit_copy(sample: &Sample) -> Sample
 /// items that it takes without allocating.
 #[derive(Debug)]
 pub struct Column {
-    samples: SampleLists,
+    samples: SampleChunks,
     hidden: Vec<Run>,
-    // The greatest time of the samples, kept here so that an item needs no access to the end of the last list.
-    latest: Option<i64>,
 }
 
 // Written out, so that a function that drops one has a call in its proof, and not a copy of this body.
@@ -47,7 +45,6 @@ impl Drop for Column {
         let Column {
             samples: _samples,
             hidden: _hidden,
-            latest: _latest,
         } = self;
     }
 }
@@ -56,7 +53,7 @@ impl Model for Column {
     ghost use Rattle.std.specs.Prelude.{◌≡◌, All, min, ◌-◌, vec_len};
     ghost use Rattle.std.specs.Vec.{vec_capacity};
     ghost use Rattle.head_column.specs.Chunks.{IsFit};
-    ghost use Rattle.head_column.specs.Histories.{ColumnValue, latest as latest_of};
+    ghost use Rattle.head_column.specs.Histories.{ColumnValue};
     ghost use Rattle.head_column.specs.Runs.{AreApart};
     ghost use Rattle.head_column.specs.Samples.{Rises};
 
@@ -67,7 +64,7 @@ impl Model for Column {
       spare = min c.samples.room (vec_capacity c.hidden - vec_len c.hidden);
     } };
 
-    ghost invariant = { λ c. Rises c.samples.samples × AreApart c.hidden.items × All IsFit c.samples.samples × (c.latest ≡ latest_of c.samples.samples) };
+    ghost invariant = { λ c. Rises c.samples.samples × AreApart c.hidden.items × All IsFit c.samples.samples };
 }
 
 impl Column {
@@ -77,13 +74,12 @@ impl Column {
         ensures items { IsHistoryOf [] result.history }
     {
         Column {
-            samples: SampleLists::new(alloc),
+            samples: SampleChunks::new(alloc),
             hidden: Vec::new(alloc),
-            latest: None,
         }
     }
 
-    /// Returns the number of accepted samples. Takes a step for each list of them.
+    /// Returns the number of accepted samples. Takes a step for each chunk of them.
     pub fn len(&self) -> usize
         ensures { result ≡ length self.now.history.samples }
     {
@@ -94,7 +90,7 @@ impl Column {
     pub fn max_time(&self) -> Option<i64>
         ensures { result ≡ latest self.now.history.samples }
     {
-        self.latest
+        self.samples.latest()
     }
 
     /// Borrows the runs of the hidden times, ascending: no run is empty, and between two runs is a time that is not hidden.
@@ -127,6 +123,17 @@ impl Column {
         cut_chunks(&self.samples, hour)
     }
 
+    /// Returns the accepted samples of an hour in a server's XOR chunks, cut as `chunks_in` cuts them. Copies the chunks as they were made, unless
+    /// some samples of the hour were dropped. Returns an error if out of memory, only if there are samples in the hour.
+    pub fn xor_chunks_in(&self, hour: Hour) -> Result<Vec<Chunk>, AllocError>
+        ensures chunks { IfOk result (λ chunks. chunks.items ≡ xor_chunks_of (filter (λ s. is_in_hour hour s.time) self.now.history.samples)) }
+        ensures none { filter (λ s. is_in_hour hour s.time) self.now.history.samples ≡ [] → IsOk result }
+        ensures rises { Rises self.now.history.samples }
+        ensures fit { All IsFit self.now.history.samples }
+    {
+        xor_chunks(&self.samples, hour)
+    }
+
     /// Allocates memory for this many more items of any kind. Returns an error if out of memory. In both cases the history is
     /// unchanged, and `spare` is not less than before.
     pub fn reserve(&mut self, items: usize) -> Result<(), AllocError>
@@ -148,7 +155,6 @@ impl Column {
     {
         self.samples.drop_before(min_valid);
         cut(&mut self.hidden, min_valid);
-        self.latest = latest_from(self.latest, min_valid);
     }
 
     /// Replaces the runs of the hidden times.
@@ -182,7 +188,6 @@ impl Column {
                     return Ok(Outcome::Stale);
                 }
                 self.samples.push(fit_copy(sample))?;
-                self.latest = Some(sample.time);
                 Ok(Outcome::Accepted)
             }
             Item::Stone(run) => {

@@ -3,13 +3,13 @@
 ghost use Rattle.std.specs.Prelude.{◌≡◌, ◌≤◌, ◌<◌, List, length, Err, IfOk, IfSome, IfNone};
 ghost use Rattle.hw_bytes.specs.Writing.{big_number};
 ghost use Rattle.hw_bytes.specs.Spellings.{IsAt, IsNowhere};
-ghost use Rattle.head_column.specs.declared.items.Sample.{Sample as Entry};
+ghost use Rattle.xor_chunk.specs.declared.sample.Sample.{Sample as Entry};
 ghost use Rattle.head_column.specs.Chunks.{IsChunk, chunk_samples, chunk_text};
 ghost use Rattle.head_column.specs.Reading.{IsStep, IsTime, IsSample, HaveText, AreRead};
 
+use crate::Sample;
 use crate::chunk::{CHUNK_SAMPLES, ChunkFault};
 use crate::encoding::encode_chunk;
-use crate::items::Sample;
 use hw_bytes::{be16_at, be64_at, uvarint_at, varint_at};
 use std::alloc::Global;
 

@@ -4,7 +4,7 @@ ghost use Rattle.std.specs.Prelude.{◌≡◌, ◌<◌, ◌≤◌, ◌++◌, len
 ghost use Rattle.head_column.specs.Samples.{Rises};
 ghost use Rattle.head_column.specs.Chunks.{IsFit, chunk_samples, time_text, sample_text, samples_text, chunk_text, last_time};
 
-use crate::items::Sample;
+use crate::Sample;
 use hw_bytes::{put_be16, put_be64, put_uvarint, put_varint};
 use std::alloc::{AllocError, Global};
 

@@ -3,12 +3,7 @@
 ghost use Rattle.std.specs.Prelude.{◌≡◌};
 ghost use Rattle.head_column.specs.Runs.{spans};
 
-/// A sample: a time in milliseconds, and a value, whose eight bytes are kept as a signed number.
-#[derive(Clone, Copy, Debug, PartialEq, Eq)]
-pub struct Sample {
-    pub time: i64,
-    pub value: i64,
-}
+use xor_chunk::Sample;
 
 /// A run of times: those from `min_time` to `max_time` in milliseconds, both included. It is empty if `min_time` is the greater.
 #[derive(Clone, Copy, Debug, PartialEq, Eq)]

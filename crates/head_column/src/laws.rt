@@ -10,7 +10,7 @@ ghost use Rattle.head_column.specs.Items.{is_stale, outcome_of, outcomes_of, sam
 ghost use Rattle.head_column.specs.Runs.{AreRunsOf};
 ghost use Rattle.head_column.specs.Tallies.{latest_after, latest_of, latest_outcome};
 ghost use Rattle.std.specs.Int.{int_max, w64};
-ghost use Rattle.head_column.specs.declared.items.Sample.{Sample as ASample};
+ghost use Rattle.xor_chunk.specs.declared.sample.Sample.{Sample as ASample};
 ghost use Rattle.head_column.specs.Hours.{hour_start, is_in_hour, HasTime, IsEdge};
 ghost use Rattle.head_column.specs.Chunks.{ArePartsOf, IsChunk, chunk_samples, chunk_text, parts};
 ghost use Rattle.head_column.specs.Times.{greatest};

@@ -7,6 +7,7 @@
 
 mod chunk;
 mod column;
+mod copying;
 mod cutting;
 mod decoding;
 mod encoding;
@@ -15,10 +16,9 @@ mod hour;
 mod items;
 mod keeping;
 mod laws;
-mod lists;
 mod runs;
-mod searching;
-mod stretch;
+mod sealed;
+mod stored;
 mod tally;
 mod times;
 
@@ -28,7 +28,7 @@ pub use decoding::decode_chunk;
 pub use encoding::encode_chunk;
 pub use gathering::GatheringColumn;
 pub use hour::{HOUR_LENGTH, Hour};
-pub use items::{Item, Outcome, Run, Sample};
+pub use items::{Item, Outcome, Run};
 pub use keeping::KeepingColumn;
 pub use laws::{
     chunk_parts, columns_follow_items, greatest_time, hours, kept_follow_histories, one_chunk,
@@ -36,3 +36,4 @@ pub use laws::{
 };
 pub use tally::Tally;
 pub use times::reaches;
+pub use xor_chunk::Sample;

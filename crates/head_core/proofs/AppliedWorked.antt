@@ -2,7 +2,7 @@
 use Rattle.std.proofs.Common.{◌≡◌, ℕ, ℤ, pos, List, [], ◌∷◌, Option, Some, None, refl}
 use Rattle.wal_record.specs.Entries.{Entry, series, sample, stone}
 use Rattle.wal_record.specs.Labels.{label}
-use Rattle.head_column.specs.declared.items.Sample.{Sample}
+use Rattle.head_column.specs.Samples.{Sample}
 use Rattle.head_column.specs.declared.items.Outcome.TheVariants.{Accepted, Stale, Hidden, EmptyStone}
 use Rattle.head_column.specs.Histories.{history_after, history_outcome, no_history}
 use Rattle.head_column.specs.Tallies.{latest_after, latest_outcome}

@@ -8,7 +8,7 @@ use Rattle.wal_record.specs.declared.record.WalRecord.TheVariants.{Series, Sampl
 use Rattle.wal_record.specs.Entries.{entries_of}
 use Rattle.wal_record.specs.Labels.{label}
 use Rattle.wal_record.specs.Validity.{valid, rewritten}
-use Rattle.head_column.specs.declared.items.Sample.{Sample}
+use Rattle.head_column.specs.Samples.{Sample}
 use Rattle.head_column.specs.Times.{greatest}
 use Rattle.head_column.specs.Histories.{History, history_of}
 use Rattle.head_column.specs.Validity.{history_from, latest_from}

@@ -6,7 +6,7 @@ ghost use Rattle.head_column.specs.Histories.{latest};
 ghost use Rattle.head_column.specs.Runs.{AreApart};
 ghost use Rattle.head_column.specs.Samples.{Rises};
 ghost use Rattle.head_column.specs.Hours.{is_in_hour};
-ghost use Rattle.head_column.specs.Chunks.{IsFit, chunks_of};
+ghost use Rattle.head_column.specs.Chunks.{IsFit, chunks_of, xor_chunks_of};
 ghost use Rattle.head_series.specs.Rows.{AreDistinct};
 ghost use Rattle.head_series.specs.Table.{after, labels_at, slot_at, IsLeast};
 ghost use Rattle.head_series.specs.Texts.{place};
@@ -151,6 +151,19 @@ impl Head {
         ensures chunks { IfOk result (λ chunks. chunks.items ≡ chunks_of (filter (λ s. is_in_hour hour s.time) (history_at self.now.content slot).samples)) }
     {
         self.column(slot).chunks_in(hour)
+    }
+
+    /// Returns the accepted samples of a series in an hour, in a server's XOR chunks of 120 samples from the first one in the hour on; the last
+    /// chunk may have fewer. Chunks that were made so are copied. Returns an error if out of memory. The clauses `rises` and `fit` say what
+    /// holds of every series.
+    pub fn xor_chunks_in(&self, slot: Slot, hour: Hour) -> Result<Vec<Chunk>, AllocError>
+        requires sound { self.now.failed ≡ false }
+        requires slot { slot < length self.now.content.table.series }
+        ensures rises { Rises (history_at self.now.content slot).samples }
+        ensures fit { All IsFit (history_at self.now.content slot).samples }
+        ensures chunks { IfOk result (λ chunks. chunks.items ≡ xor_chunks_of (filter (λ s. is_in_hour hour s.time) (history_at self.now.content slot).samples)) }
+    {
+        self.column(slot).xor_chunks_in(hour)
     }
 
     /// Returns the runs of the hidden times of a series, borrowed from the head. Each run has at least one time, the runs ascend, and

@@ -1,6 +1,6 @@
 -- Samples with the slots of their series.
 use Rattle.std.specs.Prelude.{◌≡◌, ◌<◌, ◌<ℤ◌, ◌⊎◌, ℕ}
-use Rattle.head_column.specs.declared.items.Sample.{Sample}
+use Rattle.head_column.specs.Samples.{Sample}
 use Rattle.head_live.specs.declared.placed.PlacedSample.{PlacedSample}
 
 -- a sample, placed in a slot

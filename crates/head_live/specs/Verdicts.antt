@@ -3,7 +3,7 @@ use Rattle.std.specs.Prelude.{ℕ, ℤ, Bool, true, false, List, [], ◌∷◌, 
 use Rattle.std.specs.List.{list_any}
 use Rattle.hw_bytes.specs.Lists.{along}
 use Rattle.wal_record.specs.Labels.{Labels, same_labels}
-use Rattle.head_column.specs.declared.items.Sample.{Sample}
+use Rattle.head_column.specs.Samples.{Sample}
 use Rattle.head_series.specs.Texts.{place}
 use Rattle.head_core.specs.Content.{Content}
 use Rattle.head_core.specs.Heads.{history_at}

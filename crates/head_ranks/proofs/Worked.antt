@@ -5,7 +5,7 @@ use Rattle.hw_bytes.specs.Lists.{distinct}
 use Rattle.wal_record.specs.declared.labels.Label.{Label}
 use Rattle.wal_record.specs.Labels.{Labels, label, same_label, same_text}
 use Rattle.head_column.specs.Histories.{History}
-use Rattle.head_column.specs.declared.items.Sample.{Sample}
+use Rattle.head_column.specs.Samples.{Sample}
 use Rattle.head_ranks.specs.Counts.{all_labels, has_label, metric_name, samples_of, values_of, with_label}
 
 abbrev sample : ℤ → Sample

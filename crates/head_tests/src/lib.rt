@@ -99,6 +99,8 @@ mod sources;
 #[cfg(test)]
 mod starts;
 #[cfg(test)]
+mod streams;
+#[cfg(test)]
 mod tickets;
 #[cfg(test)]
 mod unjoined;

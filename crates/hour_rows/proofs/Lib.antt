@@ -1,5 +1,4 @@
 pub mod Clips
-pub mod Encoded
 pub mod Gathered
 pub mod Orders
 pub mod Picked

@@ -14,7 +14,7 @@ use Rattle.wal_record.specs.Labels.{IsLabelSet, Labels, compare_labels, same_lab
 use Rattle.wal_record.proofs.Comparing.{labels_equal, labels_total}
 use Rattle.wal_record.proofs.Equality.{labels_same}
 use Rattle.head_column.specs.declared.items.Run.{Run}
-use Rattle.head_column.specs.declared.items.Sample.{Sample}
+use Rattle.head_column.specs.Samples.{Sample}
 use Rattle.head_column.specs.Chunks.{IsFit}
 use Rattle.head_column.specs.Histories.{History, no_history}
 use Rattle.head_column.specs.Hours.{is_in_hour}

@@ -8,7 +8,7 @@ use Rattle.std.specs.declared.cmp.Ordering.{Ordering}
 use Rattle.std.specs.declared.cmp.Ordering.TheVariants.{Less, Equal, Greater}
 use Rattle.wal_record.specs.Labels.{Labels, compare_labels}
 use Rattle.head_column.specs.declared.items.Run.{Run}
-use Rattle.head_column.specs.declared.items.Sample.{Sample}
+use Rattle.head_column.specs.Samples.{Sample}
 use Rattle.head_column.specs.Histories.{History}
 use Rattle.head_column.specs.Hours.{hour_start, is_in_hour}
 use Rattle.head_column.specs.Kept.{samples_at, seen_at}

@@ -1,7 +1,7 @@
 -- The samples and the hidden runs of an hour.
 use Rattle.std.specs.Prelude.{ℤ, List, map, filter, int_le}
 use Rattle.std.specs.Int.{int_min, int_max}
-use Rattle.head_column.specs.declared.items.Sample.{Sample}
+use Rattle.head_column.specs.Samples.{Sample}
 use Rattle.head_column.specs.declared.items.Run.{Run}
 use Rattle.head_column.specs.Hours.{hour_start, is_in_hour}
 use Rattle.block_read.specs.Blocks.{hour_last}

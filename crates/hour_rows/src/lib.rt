@@ -1,7 +1,6 @@
 //! The rows of an hour of a head: a series with an accepted sample in the hour, its samples and its hidden runs there.
 #![tactic(auto)]
 
-mod chunks;
 mod rows;
 mod seen;
 

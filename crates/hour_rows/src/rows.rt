@@ -13,10 +13,8 @@ ghost use Rattle.hour_rows.specs.Clipping.{clip, runs_in, samples_in};
 ghost use Rattle.hour_rows.specs.Chunked.{IsHistory, in_chunks, row_at};
 ghost use Rattle.hour_rows.specs.Rows.{rows_of};
 ghost use Rattle.index_text.specs.Rows.{IsChain};
-ghost use Rattle.block_files.specs.declared.encoding.Encoding.TheVariants.{Xor};
 ghost use Rattle.block_read.specs.Blocks.{IsRowOf, chunks_in, hour_last};
 
-use crate::chunks::{all_fit, between, xor_chunks_of};
 use block_files::Encoding;
 use head_column::{Chunk, HOUR_LENGTH, Hour, Run};
 use head_core::Head;
@@ -114,29 +112,8 @@ fn clip_runs(alloc: Global, runs: &[Run], hour: Hour) -> Result<Vec<Run>, AllocE
     Ok(kept)
 }
 
-// Returns the XOR chunks of the series in a slot in the hour, which is no edge.
-fn xor_chunks_in(
-    alloc: Global,
-    head: &Head,
-    slot: Slot,
-    hour: Hour,
-) -> Result<Vec<Chunk>, AllocError>
-    requires sound { head.now.failed ≡ false }
-    requires slot { slot < length head.now.content.table.series }
-    requires whole { IsEdge hour → ⊥ }
-    ensures chunks { IfOk result (λ chunks. chunks.items ≡ chunks_in Xor (samples_in hour (history_at head.now.content slot).samples)) }
-    ensures rises { IfOk result (λ _. Rises (history_at head.now.content slot).samples) }
-    ensures fit { IfOk result (λ _. All IsFit (history_at head.now.content slot).samples) }
-{
-    let samples = head.samples(slot)?;
-    // for the proof: the numbers of the samples have 64 bits
-    all_fit(&samples);
-    xor_chunks_of(alloc, between(&samples, first_of(hour), end_of(hour)))
-}
-
 // Returns the chunks of the series in a slot in the hour, which is no edge.
 fn chunks_of(
-    alloc: Global,
     head: &Head,
     slot: Slot,
     hour: Hour,
@@ -151,7 +128,7 @@ fn chunks_of(
 {
     match encoding {
         Encoding::Raw => head.chunks_in(slot, hour),
-        Encoding::Xor => xor_chunks_in(alloc, head, slot, hour),
+        Encoding::Xor => head.xor_chunks_in(slot, hour),
     }
 }
 
@@ -169,7 +146,7 @@ fn row_of(
     ensures row { IfOk result (λ row. row ≡ row_at encoding hour head.now.content slot) }
     ensures held { IfOk result (λ _. IsHistory (history_at head.now.content slot)) }
 {
-    let chunks = chunks_of(alloc, head, slot, hour, encoding)?;
+    let chunks = chunks_of(head, slot, hour, encoding)?;
     let hidden = head.hidden(slot);
     if chunks.is_empty() {
         return Ok(None);

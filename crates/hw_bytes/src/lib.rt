@@ -24,4 +24,5 @@ pub use sums::{four_bytes_of, is_summed, put_sum};
 pub use write_fault::WriteFault;
 pub use writing::{
     put_be16, put_be32, put_be64, put_text, put_uvarint, put_varint, uvarint_len, varint_len,
+    zigzag,
 };

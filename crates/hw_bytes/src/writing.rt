@@ -66,8 +66,8 @@ pub fn uvarint_len(number: u64) -> usize
     len + 1
 }
 
-// Returns 2n for n >= 0, and -2n - 1 for n < 0.
-fn zigzag(number: i64) -> u64
+/// Returns the number whose uvarint is the varint of a signed number n: 2n for n >= 0, and -2n - 1 for n < 0.
+pub fn zigzag(number: i64) -> u64
     ensures { result ≡ zigzag_of number }
 {
     if number < 0 {

@@ -9,7 +9,7 @@ use Rattle.std.proofs.lemmas.Option.{get_or_from_slice_get, slice_get_within}
 use Rattle.wal_record.specs.declared.labels.Label.{Label}
 use Rattle.wal_record.specs.Labels.{Labels}
 use Rattle.answers.specs.Spellings.{pair_text}
-use Rattle.head_column.specs.declared.items.Sample.{Sample}
+use Rattle.head_column.specs.Samples.{Sample}
 use Rattle.answers.specs.Outputs.{IsMade}
 use Rattle.query_commands.specs.Dumps.{AppendsLine, AppendsValue, IsLine, MakesLines, labelled, labels_text}
 

@@ -1,7 +1,7 @@
 -- The answer of a dump.
 use Rattle.std.proofs.Common.{◌≡◌, ℕ, ℤ, Bool, List, [], Option, Result, subst}
 use Rattle.std.specs.Prelude.{MatchResult}
-use Rattle.head_column.specs.declared.items.Sample.{Sample}
+use Rattle.head_column.specs.Samples.{Sample}
 use Rattle.head_core.specs.Content.{Content}
 use Rattle.store.specs.Views.{View}
 use Rattle.answers.specs.declared.damage.Flaw.{Flaw}

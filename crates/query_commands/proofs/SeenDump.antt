@@ -2,7 +2,7 @@
 use Rattle.std.proofs.Common.{◌≡◌, ℕ, zero, suc, Bool, true, false, List, [], ◌∷◌, ◌++◌, refl, sym, ap, ◌∙◌, map}
 use Rattle.std.specs.Prelude.{◌&&◌, ◌||◌, filter, int_le, not, if◌then◌else◌, slice_get, unwrap_or}
 use Rattle.head_column.specs.declared.items.Run.{Run}
-use Rattle.head_column.specs.declared.items.Sample.{Sample}
+use Rattle.head_column.specs.Samples.{Sample}
 use Rattle.head_column.specs.Histories.{History, no_history}
 use Rattle.head_column.specs.Kept.{samples_at, seen_at}
 use Rattle.head_column.specs.Runs.{span_any, spans}

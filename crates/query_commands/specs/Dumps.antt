@@ -4,7 +4,7 @@ use Rattle.std.specs.List.{AllZip, flat_map}
 use Rattle.std.specs.Fmt.{signed_decimal}
 use Rattle.float_text.specs.FloatText.{Reads}
 use Rattle.wal_record.specs.Labels.{Labels}
-use Rattle.head_column.specs.declared.items.Sample.{Sample}
+use Rattle.head_column.specs.Samples.{Sample}
 use Rattle.head_core.specs.Content.{Content}
 use Rattle.head_core.specs.Heads.{history_at}
 use Rattle.head_series.specs.Table.{labels_at}

@@ -1,7 +1,7 @@
 -- Which samples of a series are shown.
 use Rattle.std.specs.Prelude.{Bool, ◌&&◌, ◌||◌, not, int_le, List, filter}
 use Rattle.head_column.specs.declared.items.Run.{Run}
-use Rattle.head_column.specs.declared.items.Sample.{Sample}
+use Rattle.head_column.specs.Samples.{Sample}
 use Rattle.head_column.specs.Runs.{span_any}
 use Rattle.head_column.specs.Histories.{History}
 use Rattle.query_commands.specs.declared.selection.Selection.{Selection}

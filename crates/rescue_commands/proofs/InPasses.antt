@@ -5,7 +5,7 @@ use Rattle.std.proofs.lemmas.Int.{ints}
 use Rattle.std.proofs.lemmas.List.Elements.{All-contains, All-head, All-nil, All-push, All-tail, filter_passes}
 use Rattle.wal_log.specs.Inputs.{Files}
 use Rattle.head_column.specs.declared.items.Run.{Run}
-use Rattle.head_column.specs.declared.items.Sample.{Sample}
+use Rattle.head_column.specs.Samples.{Sample}
 use Rattle.head_column.specs.Histories.{History}
 use Rattle.head_column.specs.Hours.{IsEdge, hour_start, is_in_hour}
 use Rattle.head_column.specs.Kept.{samples_at, seen_at}

@@ -1,11 +1,13 @@
 -- Bits of joined numbers, and of bytes.
-use Rattle.std.proofs.Common.{◌≡◌, ℕ, zero, suc, ◌+◌, ◌-◌, ◌*◌, ◌/◌, ◌%◌, ◌^◌, ◌<◌, ◌≤◌, eqb, Bool, true, false, List, [], ◌∷◌, ◌++◌, length, refl, sym, ap, ◌∙◌, subst, arith, append_assoc, length-append, drop, get_or}
+use Rattle.std.proofs.Common.{◌≡◌, ℕ, zero, suc, ◌+◌, ◌-◌, ◌*◌, ◌/◌, ◌%◌, ◌^◌, ◌<◌, ◌≤◌, eqb, Bool, true, false, List, [], ◌∷◌, ◌++◌, length, refl, sym, ap, ◌∙◌, subst, arith, append_assoc, length-append, drop, get_or, take}
 use Rattle.std.specs.Prelude.{replicate}
-use Rattle.std.proofs.lemmas.List.{append-nil}
+use Rattle.std.proofs.lemmas.List.{append-nil, drop-append-le, drop_at, length-take-le, take-append-drop, take-append-le}
 use Rattle.std.proofs.lemmas.Nat.{shr-shr, shr_high, mod_low, shr_split, shl_whole, mul-add-lt, pow-add, pow_below, pow_pos, one_shl, mod_below, shr_below, shl_below}
 use Rattle.std.proofs.lemmas.Nat.Bits.{bit_at_cat_low}
+use Rattle.std.specs.Int.{byte_at}
+use Rattle.hw_bytes.specs.Writing.{big_bytes}
 use Rattle.xor_chunk.specs.Bits.{bits_of, bits_in}
-use Rattle.xor_chunk.specs.Private.{IsPad, IsPacked}
+use Rattle.xor_chunk.specs.Private.{IsEnded, IsMoved, IsPacked, IsPad, IsWord}
 
 -- the upper bits, and then the lower ones
 pub bits_of-cat : (a b n : ℕ) → bits_of (a + b) n ≡ bits_of a (n / 2 ^ b) ++ bits_of b n
@@ -59,6 +61,25 @@ pub no_bytes : bits_in [] ≡ []
 unfolding bits_in
 no_bytes = refl
 
+-- the bytes of a number have its bits
+scale : (k : ℕ) → 256 ^ k ≡ 2 ^ (8 * k)
+scale zero = refl
+scale (suc k) =
+    let place : suc k ≡ 1 + k = omega arith in
+    let wide : 8 * suc k ≡ 8 + 8 * k = omega arith in
+    ap (λ (m : ℕ). 256 ^ m) place ∙ pow-add 256 1 k ∙ ap (λ (m : ℕ). 256 * m) (scale k) ∙ sym (ap (λ (m : ℕ). 2 ^ m) wide ∙ pow-add 2 8 (8 * k))
+
+byte_is : (k n : ℕ) → byte_at k n ≡ n / 2 ^ (8 * k) % 256
+byte_is zero n = omega arith
+byte_is (suc k) n = ap (λ (m : ℕ). n / m % 256) (scale (suc k))
+
+pub big_bits : (k n : ℕ) → bits_in (big_bytes k n) ≡ bits_of (8 * k) n
+big_bits zero n = no_bytes ∙ sym (no_bits n)
+big_bits (suc k) n =
+    let place : 8 * suc k ≡ 8 + 8 * k = omega arith in
+    bits_in-cons (byte_at k n) (big_bytes k n) ∙ ap (λ (bs : List Bool). bits_of 8 (byte_at k n) ++ bs) (big_bits k n)
+    ∙ ap (λ (bs : List Bool). bs ++ bits_of (8 * k) n) (ap (bits_of 8) (byte_is k n) ∙ bits_of-low 8 8 (n / 2 ^ (8 * k)) (omega arith)) ∙ sym (ap (λ (m : ℕ). bits_of m n) place ∙ bits_of-cat 8 (8 * k) n)
+
 -- the eight upper bits move into a byte
 pub push_byte : (items : List ℕ) (left held : ℕ) → 8 ≤ left → bits_in (items ++ (held / 2 ^ (left - 8) % 256) ∷ []) ++ bits_of (left - 8) held ≡ bits_in items ++ bits_of left held
 push_byte items left held h =
@@ -86,21 +107,48 @@ take_number count left held more =
 -- ---- the writer
 
 -- the code's shift makes room
-pub shifted : (c count held : ℕ) → c < 8 → count ≤ 56 → held < 2 ^ c → held * 2 ^ count % 2 ^ 64 ≡ held * 2 ^ count
-shifted c count held h k l = shl_whole held c count 64 l (omega arith)
+pub shifted : (c count held : ℕ) → c + count < 64 → held < 2 ^ c → held * 2 ^ count % 2 ^ 64 ≡ held * 2 ^ count
+shifted c count held h l = shl_whole held c count 64 l (omega arith)
 
-pub joined_small : (c count held number : ℕ) → c < 8 → count ≤ 56 → held < 2 ^ c → number < 2 ^ count → held * 2 ^ count % 2 ^ 64 + number < 2 ^ 64
-joined_small c count held number h k l m =
-    let whole = shifted c count held h k l in
+pub joined_fits : (c count held number : ℕ) → c + count < 64 → held < 2 ^ c → number < 2 ^ count → held * 2 ^ count % 2 ^ 64 + number < 2 ^ (c + count)
+joined_fits c count held number h l m =
+    let whole = shifted c count held h l in
     let below : held * 2 ^ count + number < 2 ^ count * 2 ^ c = mul-add-lt held (2 ^ count) number (2 ^ c) l m in
     let width : 2 ^ (count + c) ≡ 2 ^ count * 2 ^ c = pow-add 2 count c in
-    let most : 2 ^ (count + c) < 2 ^ 64 = pow_below (count + c) 64 (omega arith) in
-    omega (arith, whole, below, width, most)
+    let turned : count + c ≡ c + count = omega arith in
+    subst (λ (k : ℕ). held * 2 ^ count % 2 ^ 64 + number < 2 ^ k) turned (omega (arith, whole, below, width))
 
-pub push_start : (items : List ℕ) (c count held number : ℕ) → c < 8 → count ≤ 56 → held < 2 ^ c → number < 2 ^ count
+pub joined_small : (c count held number : ℕ) → c + count < 64 → held < 2 ^ c → number < 2 ^ count → held * 2 ^ count % 2 ^ 64 + number < 2 ^ 64
+joined_small c count held number h l m =
+    let fits = joined_fits c count held number h l m in
+    let most : 2 ^ (c + count) < 2 ^ 64 = pow_below (c + count) 64 h in
+    omega (arith, fits, most)
+
+pub push_start : (items : List ℕ) (c count held number : ℕ) → c + count < 64 → held < 2 ^ c → number < 2 ^ count
     → bits_in items ++ bits_of (c + count) (held * 2 ^ count % 2 ^ 64 + number) ≡ (bits_in items ++ bits_of c held) ++ bits_of count number
-push_start items c count held number h k l m =
-    ap (λ (n : ℕ). bits_in items ++ bits_of (c + count) (n + number)) (shifted c count held h k l) ∙ ap (λ (bs : List Bool). bits_in items ++ bs) (bits_of-join c count held number m) ∙ sym (append_assoc (bits_in items) (bits_of c held) (bits_of count number))
+push_start items c count held number h l m =
+    ap (λ (n : ℕ). bits_in items ++ bits_of (c + count) (n + number)) (shifted c count held h l) ∙ ap (λ (bs : List Bool). bits_in items ++ bs) (bits_of-join c count held number m) ∙ sym (append_assoc (bits_in items) (bits_of c held) (bits_of count number))
+
+-- the first 32 bits move into bytes
+pub word_put : (items one two three new : List ℕ) (count held : ℕ) → 32 ≤ count → one ≡ items ++ (held / 2 ^ (count - 8) % 256) ∷ [] → two ≡ one ++ (held / 2 ^ (count - 16) % 256) ∷ []
+    → three ≡ two ++ (held / 2 ^ (count - 24) % 256) ∷ [] → new ≡ three ++ (held / 2 ^ (count - 32) % 256) ∷ [] → IsWord items new count held
+word_put items i1 i2 i3 new count held h e1 e2 e3 e4 =
+    let a : ℕ = held / 2 ^ (count - 8) % 256 in
+    let b : ℕ = held / 2 ^ (count - 16) % 256 in
+    let c : ℕ = held / 2 ^ (count - 24) % 256 in
+    let d : ℕ = held / 2 ^ (count - 32) % 256 in
+    let two : (count - 8) - 8 ≡ count - 16 = omega arith in
+    let three : (count - 16) - 8 ≡ count - 24 = omega arith in
+    let four : (count - 24) - 8 ≡ count - 32 = omega arith in
+    let p = push_byte [] count held (omega arith) in
+    let q = subst (λ (k : ℕ). bits_in (a ∷ (held / 2 ^ k % 256) ∷ []) ++ bits_of k held ≡ bits_in (a ∷ []) ++ bits_of (count - 8) held) two (push_byte (a ∷ []) (count - 8) held (omega arith)) in
+    let r = subst (λ (k : ℕ). bits_in (a ∷ b ∷ (held / 2 ^ k % 256) ∷ []) ++ bits_of k held ≡ bits_in (a ∷ b ∷ []) ++ bits_of (count - 16) held) three (push_byte (a ∷ b ∷ []) (count - 16) held (omega arith)) in
+    let s = subst (λ (k : ℕ). bits_in (a ∷ b ∷ c ∷ (held / 2 ^ k % 256) ∷ []) ++ bits_of k held ≡ bits_in (a ∷ b ∷ c ∷ []) ++ bits_of (count - 24) held) four (push_byte (a ∷ b ∷ c ∷ []) (count - 24) held (omega arith)) in
+    record {
+      back = a ∷ b ∷ c ∷ d ∷ [];
+      is = e4 ∙ ap (λ (bs : List ℕ). bs ++ d ∷ []) (e3 ∙ ap (λ (bs : List ℕ). bs ++ c ∷ []) (e2 ∙ ap (λ (bs : List ℕ). bs ++ b ∷ []) e1)) ∙ append_assoc ((items ++ a ∷ []) ++ b ∷ []) (c ∷ []) (d ∷ []) ∙ append_assoc (items ++ a ∷ []) (b ∷ []) (c ∷ d ∷ []) ∙ append_assoc items (a ∷ []) (b ∷ c ∷ d ∷ []);
+      bits = s ∙ r ∙ q ∙ p ∙ ap (λ (bs : List Bool). bs ++ bits_of count held) no_bytes;
+    }
 
 -- the code's mask leaves the lowest bits
 pub masked : (left held : ℕ) → left < 64 → bits_of left (held % (1 * 2 ^ left % 2 ^ 64)) ≡ bits_of left held
@@ -121,48 +169,135 @@ halves before count number h =
 pub upper_small : (count number : ℕ) → 32 < count → number < 2 ^ count → number / 2 ^ 32 < 2 ^ (count - 32)
 upper_small count number h l = let all : count ≡ (count - 32) + 32 = omega arith in shr_below number (count - 32) 32 (subst (λ (k : ℕ). number < 2 ^ k) all l)
 
--- ---- the last byte
+-- bytes are put behind those from a place on
+pub behind_put : (start : ℕ) (old new back : List ℕ) → start ≤ length old → new ≡ old ++ back → (take start new ≡ take start old) × (drop start new ≡ drop start old ++ back)
+behind_put start old new back h e = (ap (take start) e ∙ take-append-le start old back h, ap (drop start) e ∙ drop-append-le start old back h)
+
+pub word_bits : (start : ℕ) (old new : List ℕ) (count held : ℕ) → start ≤ length old → IsWord old new count held → bits_in (drop start new) ++ bits_of (count - 32) held ≡ bits_in (drop start old) ++ bits_of count held
+word_bits start old new count held h w =
+    ap (λ (bs : List ℕ). bits_in bs ++ bits_of (count - 32) held) (behind_put start old new w.back h w.is).1 ∙ ap (λ (bs : List Bool). bs ++ bits_of (count - 32) held) (bits_in-append (drop start old) w.back)
+    ∙ append_assoc (bits_in (drop start old)) (bits_in w.back) (bits_of (count - 32) held) ∙ ap (λ (bs : List Bool). bits_in (drop start old) ++ bs) w.bits
+
+-- the bytes behind a place, and those that wait after them
+pub behind_moved : (start : ℕ) (old waited new waiting : List ℕ) → start ≤ length old → IsMoved old waited new waiting → drop start new ++ waiting ≡ drop start old ++ waited
+behind_moved start old waited new waiting h m =
+    ap (λ (bs : List ℕ). bs ++ waiting) (behind_put start old new m.moved h m.are).1 ∙ append_assoc (drop start old) m.moved waiting ∙ ap (λ (bs : List ℕ). drop start old ++ bs) m.left
+
+pub front_moved : (start : ℕ) (old waited new waiting : List ℕ) → start ≤ length old → IsMoved old waited new waiting → take start new ≡ take start old
+front_moved start old waited new waiting h m = (behind_put start old new m.moved h m.are).0
+
+pub none_moved : (old waited : List ℕ) → IsMoved old waited old waited
+none_moved old waited = record { moved = []; are = sym (append-nil old); left = refl }
+
+pub all_moved : (old waited new waiting : List ℕ) → new ≡ old ++ waited → waiting ≡ [] → IsMoved old waited new waiting
+all_moved old waited new waiting e none = record { moved = waited; are = e; left = ap (λ (bs : List ℕ). waited ++ bs) none ∙ append-nil waited }
+
+-- a word among the bytes that wait
+pub word_behind : (behind old new : List ℕ) (count held : ℕ) → IsWord old new count held → bits_in (behind ++ new) ++ bits_of (count - 32) held ≡ bits_in (behind ++ old) ++ bits_of count held
+word_behind behind old new count held w =
+    ap (λ (bs : List ℕ). bits_in (behind ++ bs) ++ bits_of (count - 32) held) w.is ∙ ap (λ (bs : List ℕ). bits_in bs ++ bits_of (count - 32) held) (sym (append_assoc behind old w.back))
+    ∙ ap (λ (bs : List Bool). bs ++ bits_of (count - 32) held) (bits_in-append (behind ++ old) w.back) ∙ append_assoc (bits_in (behind ++ old)) (bits_in w.back) (bits_of (count - 32) held) ∙ ap (λ (bs : List Bool). bits_in (behind ++ old) ++ bs) w.bits
+
+-- ---- the end
 
 zero_bits : (k : ℕ) → bits_of k 0 ≡ replicate k false
 unfolding bits_of
 zero_bits zero = refl
 zero_bits (suc k) = let none : 0 / 2 ^ k % 2 ≡ 0 = omega (arith, pow_pos k) in ap (λ (d : ℕ). eqb d 1 ∷ bits_of k 0) none ∙ ap (λ (bs : List Bool). false ∷ bs) (zero_bits k)
 
-last_shift : (count held : ℕ) → count < 8 → held < 2 ^ count → held * 2 ^ (8 - count) % 2 ^ 64 ≡ held * 2 ^ (8 - count)
-last_shift count held h l = shl_whole held count (8 - count) 64 l (omega arith)
+last_shift : (left low : ℕ) → left < 8 → low < 2 ^ left → low * 2 ^ (8 - left) % 2 ^ 64 ≡ low * 2 ^ (8 - left)
+last_shift left low h l = shl_whole low left (8 - left) 64 l (omega arith)
 
-pub last_fits : (count held : ℕ) → count < 8 → held < 2 ^ count → held * 2 ^ (8 - count) % 2 ^ 64 < 2 ^ 8
-last_fits count held h l =
-    let all : count + (8 - count) ≡ 8 = omega arith in
-    let below : held * 2 ^ (8 - count) < 2 ^ (count + (8 - count)) = shl_below held count (8 - count) l in
-    let e = last_shift count held h l in
-    omega (arith, e, subst (λ (k : ℕ). held * 2 ^ (8 - count) < 2 ^ k) all below)
+pub last_fits : (left held : ℕ) → left < 8 → held % (1 * 2 ^ left % 2 ^ 64) * 2 ^ (8 - left) % 2 ^ 64 < 2 ^ 8
+last_fits left held h =
+    let low : ℕ = held % (1 * 2 ^ left % 2 ^ 64) in
+    let l : low < 2 ^ left = mask_small left held (omega arith) in
+    let all : left + (8 - left) ≡ 8 = omega arith in
+    let below : low * 2 ^ (8 - left) < 2 ^ (left + (8 - left)) = shl_below low left (8 - left) l in
+    let e = last_shift left low h l in
+    omega (arith, e, subst (λ (k : ℕ). low * 2 ^ (8 - left) < 2 ^ k) all below)
 
-last_bits : (count held : ℕ) → count < 8 → held < 2 ^ count → bits_of 8 (held * 2 ^ (8 - count) % 2 ^ 64) ≡ bits_of count held ++ replicate (8 - count) false
-last_bits count held h l =
-    let all : 8 ≡ count + (8 - count) = omega arith in
-    let plus : held * 2 ^ (8 - count) ≡ held * 2 ^ (8 - count) + 0 = omega arith in
-    ap (bits_of 8) (last_shift count held h l ∙ plus) ∙ ap (λ (k : ℕ). bits_of k (held * 2 ^ (8 - count) + 0)) all
-    ∙ bits_of-join count (8 - count) held 0 (pow_pos (8 - count)) ∙ ap (λ (bs : List Bool). bits_of count held ++ bs) (zero_bits (8 - count))
+last_bits : (left held : ℕ) → left < 8 → bits_of 8 (held % (1 * 2 ^ left % 2 ^ 64) * 2 ^ (8 - left) % 2 ^ 64) ≡ bits_of left held ++ replicate (8 - left) false
+last_bits left held h =
+    let low : ℕ = held % (1 * 2 ^ left % 2 ^ 64) in
+    let l : low < 2 ^ left = mask_small left held (omega arith) in
+    let all : 8 ≡ left + (8 - left) = omega arith in
+    let plus : low * 2 ^ (8 - left) ≡ low * 2 ^ (8 - left) + 0 = omega arith in
+    ap (bits_of 8) (last_shift left low h l ∙ plus) ∙ ap (λ (k : ℕ). bits_of k (low * 2 ^ (8 - left) + 0)) all
+    ∙ bits_of-join left (8 - left) low 0 (pow_pos (8 - left)) ∙ ap (λ (bs : List Bool). bits_of left low ++ bs) (zero_bits (8 - left)) ∙ ap (λ (bs : List Bool). bs ++ replicate (8 - left) false) (masked left held (omega arith))
 
-pub packed_more : (items : List ℕ) (count held : ℕ) (whole : Bool) → count < 8 → held < 2 ^ count → (whole ≡ false → 0 < count)
-    → IsPacked (items ++ (held * 2 ^ (8 - count) % 2 ^ 64) ∷ []) whole (bits_in items ++ bits_of count held)
-packed_more items count held whole h l some = record {
-  pad = 8 - count;
-  short = is_pad whole some;
-  filled = bits_in-append items ((held * 2 ^ (8 - count) % 2 ^ 64) ∷ []) ∙ ap (λ (bs : List Bool). bits_in items ++ bs) (bits_in-one (held * 2 ^ (8 - count) % 2 ^ 64) ∙ last_bits count held h l) ∙ sym (append_assoc (bits_in items) (bits_of count held) (replicate (8 - count) false));
-}
+-- whole bytes of so many bits are put, and `left` bits are not yet
+pub record ArePut (old new : List ℕ) (count left held : ℕ) : Type 0 where
+  pub back : List ℕ
+  pub is : new ≡ old ++ back
+  pub bits : bits_in back ++ bits_of left held ≡ bits_of count held
+
+pub none_put : (old : List ℕ) (count held : ℕ) → ArePut old old count count held
+none_put old count held = record { back = []; is = sym (append-nil old); bits = ap (λ (bs : List Bool). bs ++ bits_of count held) no_bytes }
+
+pub byte_put : (old new more : List ℕ) (count left held : ℕ) → 8 ≤ left → ArePut old new count left held → more ≡ new ++ (held / 2 ^ (left - 8) % 256) ∷ [] → ArePut old more count (left - 8) held
+byte_put old new more count left held h p e =
+    let b : List ℕ = (held / 2 ^ (left - 8) % 256) ∷ [] in
+    record { back = p.back ++ b; is = e ∙ ap (λ (bs : List ℕ). bs ++ b) p.is ∙ append_assoc old p.back b; bits = push_byte p.back left held h ∙ p.bits }
+
+pub last_put : (old new more : List ℕ) (count left held : ℕ) (whole : Bool) → left < 8 → (whole ≡ false → 0 < left) → ArePut old new count left held
+    → more ≡ new ++ (held % (1 * 2 ^ left % 2 ^ 64) * 2 ^ (8 - left) % 2 ^ 64) ∷ [] → IsEnded old more whole (bits_of count held)
+last_put old new more count left held whole h some p e =
+    let x : ℕ = held % (1 * 2 ^ left % 2 ^ 64) * 2 ^ (8 - left) % 2 ^ 64 in
+    let zeros : List Bool = replicate (8 - left) false in
+    record {
+      back = p.back ++ x ∷ [];
+      is = e ∙ ap (λ (bs : List ℕ). bs ++ x ∷ []) p.is ∙ append_assoc old p.back (x ∷ []);
+      packed = record {
+        pad = 8 - left;
+        short = is_pad whole some;
+        filled = bits_in-append p.back (x ∷ []) ∙ ap (λ (bs : List Bool). bits_in p.back ++ bs) (bits_in-one x ∙ last_bits left held h) ∙ sym (append_assoc (bits_in p.back) (bits_of left held) zeros) ∙ ap (λ (bs : List Bool). bs ++ zeros) p.bits;
+      };
+    }
   where
-    is_pad : (w : Bool) → (w ≡ false → 0 < count) → IsPad w (8 - count)
-    is_pad false s = let p : 0 < count = s refl in omega arith
+    is_pad : (w : Bool) → (w ≡ false → 0 < left) → IsPad w (8 - left)
+    is_pad false s = let q : 0 < left = s refl in omega arith
     is_pad true s = (omega arith, omega arith)
 
-pub packed_whole : (items : List ℕ) (held : ℕ) → IsPacked items false (bits_in items ++ bits_of 0 held)
-packed_whole items held = record {
-  pad = 0;
-  short = omega arith;
-  filled = sym (append-nil (bits_in items ++ bits_of 0 held) ∙ ap (λ (bs : List Bool). bits_in items ++ bs) (no_bits held) ∙ append-nil (bits_in items));
-}
+pub all_put : (old new : List ℕ) (count left held : ℕ) (whole : Bool) → left ≡ 0 → whole ≡ false → ArePut old new count left held → IsEnded old new whole (bits_of count held)
+all_put old new count left held whole h e p =
+    subst (λ (w : Bool). IsEnded old new w (bits_of count held)) (sym e)
+    (record {
+      back = p.back;
+      is = p.is;
+      packed = record {
+        pad = 0;
+        short = omega arith;
+        filled = sym (append-nil (bits_in p.back)) ∙ ap (λ (bs : List Bool). bits_in p.back ++ bs) (sym (no_bits held)) ∙ ap (λ (k : ℕ). bits_in p.back ++ bits_of k held) (sym h) ∙ p.bits ∙ sym (append-nil (bits_of count held));
+      };
+    })
+
+-- what ends the bits that wait ends all of them
+pub ended_behind : (old mid behind new : List ℕ) (whole : Bool) (bits all : List Bool) → mid ≡ old ++ behind → IsEnded mid new whole bits → bits_in behind ++ bits ≡ all → IsEnded old new whole all
+ended_behind old mid behind new whole bits all put e is =
+    let zeros : List Bool = replicate e.packed.pad false in
+    record {
+      back = behind ++ e.back;
+      is = e.is ∙ ap (λ (bs : List ℕ). bs ++ e.back) put ∙ append_assoc old behind e.back;
+      packed = record {
+        pad = e.packed.pad;
+        short = e.packed.short;
+        filled = bits_in-append behind e.back ∙ ap (λ (bs : List Bool). bits_in behind ++ bs) e.packed.filled ∙ sym (append_assoc (bits_in behind) bits zeros) ∙ ap (λ (bs : List Bool). bs ++ zeros) is;
+      };
+    }
+
+-- the same of bytes that waited
+pub ended_staged : (start : ℕ) (old waited mid new : List ℕ) (whole : Bool) (bits all : List Bool) → start ≤ length old → mid ≡ old ++ waited → IsEnded mid new whole bits → bits_in (drop start old ++ waited) ++ bits ≡ all → IsEnded (take start old) new whole all
+ended_staged start old waited mid new whole bits all h put e is =
+    let parts : mid ≡ take start old ++ (drop start old ++ waited) = put ∙ ap (λ (bs : List ℕ). bs ++ waited) (sym (take-append-drop start old)) ∙ append_assoc (take start old) (drop start old) waited in
+    ended_behind (take start old) mid (drop start old ++ waited) new whole bits all parts e is
+
+-- the bytes from a place on are the ended bits
+pub ended_body_staged : (start : ℕ) (old waited mid new : List ℕ) (whole : Bool) (bits all : List Bool) → start ≤ length old → mid ≡ old ++ waited → IsEnded mid new whole bits → bits_in (drop start old ++ waited) ++ bits ≡ all
+    → IsPacked (drop start new) whole all
+ended_body_staged start old waited mid new whole bits all h put e is =
+    let ended = ended_staged start old waited mid new whole bits all h put e is in
+    subst (λ (bs : List ℕ). IsPacked bs whole all) (sym (ap (drop start) ended.is ∙ drop_at (take start old) ended.back start (length-take-le start old h))) ended.packed
 
 -- ---- the reader
 

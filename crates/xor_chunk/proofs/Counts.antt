@@ -10,7 +10,7 @@ use Rattle.hw_bytes.specs.Writing.{big_number}
 use Rattle.xor_chunk.specs.Bits.{bits_in}
 use Rattle.xor_chunk.specs.Chunks.{pattern}
 use Rattle.xor_chunk.specs.Reading.{or_bad, ◌>>=◌, value_at, sample_at, sample_of, samples_at, second_of, tail_at, second_at, value_behind, first_at, unpacked}
-use Rattle.head_column.specs.declared.items.Sample.{Sample}
+use Rattle.xor_chunk.specs.declared.sample.Sample.{Sample}
 use Rattle.xor_chunk.specs.declared.before.Before.{Before}
 use Rattle.xor_chunk.specs.declared.fault.XorFault.{XorFault}
 

@@ -14,7 +14,7 @@ use Rattle.hw_bytes.proofs.Varints.{varint_at-found, varint_at-again}
 use Rattle.xor_chunk.specs.Bits.{bits_in}
 use Rattle.xor_chunk.specs.Chunks.{pattern}
 use Rattle.xor_chunk.specs.Reading.{or_bad, ◌>>=◌, value_at, sample_of, samples_at, second_of, tail_at, second_at, value_behind, first_at, unpacked}
-use Rattle.head_column.specs.declared.items.Sample.{Sample}
+use Rattle.xor_chunk.specs.declared.sample.Sample.{Sample}
 use Rattle.xor_chunk.specs.declared.before.BitWindow.{BitWindow}
 use Rattle.xor_chunk.specs.declared.fault.XorFault.{XorFault}
 use Rattle.xor_chunk.specs.declared.fault.XorFault.TheVariants.{TooShort, BadNumber, Memory}
@@ -124,12 +124,6 @@ found_by (Ok a) x y z h p = sym h ∙ p
 pub fault_by : {A : Type 0} (r : Result A XorFault) (x y : Result (List Sample) XorFault) → x ≡ y → IfErr r (λ fault. fault ≢ Memory → x ≡ Err fault) → IfErr r (λ fault. fault ≢ Memory → y ≡ Err fault)
 fault_by (Err e) x y h p = λ other. sym h ∙ p other
 fault_by (Ok a) x y h p = p
-
-pub tail_more : (count : ℕ) (first : Sample) (delta v t : ℕ) (o : Option BitWindow) (bits new : List Bool) (items : List Sample) (s : Sample) → t ≡ pattern first.time → s ≡ sample_of (second_of t delta v o) → items ≡ first ∷ s ∷ []
-    → Ok (v, o, new) ≡ value_at None (pattern first.value) bits → samples_at (count - 2) items (second_of t delta v o) new ≡ tail_at count first delta bits
-tail_more count first delta v t o bits new items s h e f g =
-    ap (λ (xs : List Sample). samples_at (count - 2) xs (second_of t delta v o) new) (f ∙ ap (λ (x : Sample). first ∷ x ∷ []) e)
-    ∙ ap (λ (n : ℕ). samples_at (count - 2) (first ∷ sample_of (second_of n delta v o) ∷ []) (second_of n delta v o) new) h ∙ tail_found count first delta v o bits new g
 
 -- a sample that the code copies
 pub plain_sample : (t v : ℤ) → FitsSigned w64 t → FitsSigned w64 v → ◌≡◌ {A = Sample} (record { time = cast_signed w64 (cast_unsigned w64 t); value = cast_signed w64 (cast_unsigned w64 v) }) (record { time = t; value = v })

@@ -1,3 +1,4 @@
+pub mod Parts
 pub mod Bits
 pub mod Windows
 pub mod Steps
@@ -10,5 +11,6 @@ pub mod Counts
 pub mod Rounds
 pub mod Near
 pub mod RoundTrip
-pub mod Chunks
 pub mod Vectors
+pub mod Writing
+pub mod Readers

@@ -6,9 +6,9 @@ use Rattle.std.proofs.lemmas.List.{append-nil, length-replicate}
 use Rattle.std.proofs.lemmas.Nat.{pow-add}
 use Rattle.hw_bytes.specs.Spellings.{IsBytes}
 use Rattle.hw_bytes.proofs.Codes.{bytes_cons}
-use Rattle.head_column.specs.Chunks.{AreFull, parts}
-use Rattle.head_column.proofs.Parts.{parts_are}
-use Rattle.head_column.specs.declared.items.Sample.{Sample}
+use Rattle.xor_chunk.specs.Parts.{AreFull, parts}
+use Rattle.xor_chunk.proofs.Parts.{parts_are}
+use Rattle.xor_chunk.specs.declared.sample.Sample.{Sample}
 use Rattle.xor_chunk.specs.Bits.{bits_of, bits_in, number_of, byte_of, bytes_of}
 use Rattle.xor_chunk.specs.Private.{IsPacked}
 use Rattle.xor_chunk.specs.Chunks.{chunk_bits, is_whole_chunk, xor_text}
@@ -90,11 +90,11 @@ parts_small [] full = λ i. omega arith
 parts_small (p ∷ []) full = bytes_cons (byte_of p) [] (byte_small p full.1) (λ i. omega arith)
 parts_small (p ∷ q ∷ more) full = bytes_cons (byte_of p) (map byte_of (q ∷ more)) (byte_small p (omega (arith, full.0))) (parts_small (q ∷ more) full.1)
 
-bytes_packed : (bits : List Bool) → IsPacked (bytes_of bits) false bits
+pub bytes_packed : (bits : List Bool) → IsPacked (bytes_of bits) false bits
 unfolding bytes_of joined
 bytes_packed bits = let h = parts_are {A = Bool} 8 (omega arith) bits in subst (IsPacked (bytes_of bits) false) h.joined (parts_packed (parts 8 bits) h.full)
 
-bytes_small : (bits : List Bool) → IsBytes (bytes_of bits)
+pub bytes_small : (bits : List Bool) → IsBytes (bytes_of bits)
 unfolding bytes_of
 bytes_small bits = let h = parts_are {A = Bool} 8 (omega arith) bits in parts_small (parts 8 bits) h.full
 

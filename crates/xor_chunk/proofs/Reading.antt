@@ -7,8 +7,7 @@ use Rattle.std.proofs.Math.Nat.{mod-eq_of_lt}
 use Rattle.std.proofs.lemmas.Nat.{mod-pow-add, one_shl, pow_below, shl_whole}
 use Rattle.xor_chunk.specs.Bits.{bits_of}
 use Rattle.xor_chunk.specs.Chunks.{width}
-use Rattle.xor_chunk.specs.Reading.{number_at, widened, near_at, step_at, within_at, or_short, found_map, ◌>>=◌, window_of, window_at, changed_at, value_at, next, sample_at, sample_of, samples_at}
-use Rattle.head_column.specs.declared.items.Sample.{Sample}
+use Rattle.xor_chunk.specs.Reading.{number_at, widened, near_at, step_at, within_at, or_short, found_map, ◌>>=◌, window_of, window_at, changed_at, value_at, next, sample_at}
 use Rattle.xor_chunk.specs.declared.before.BitWindow.{BitWindow}
 use Rattle.xor_chunk.specs.declared.before.Before.{Before}
 use Rattle.xor_chunk.specs.declared.fault.XorFault.{XorFault}
@@ -154,22 +153,3 @@ sample_found b old one two step v o e f =
 pub mapped : {A : Type 0} (r : Result A XorFault) (new : List Bool) → found_map {B = A × List Bool} (λ x. (x, new)) r ≡ (r >>= λ x. Ok (x, new))
 mapped (Err fault) new = refl
 mapped (Ok x) new = refl
-
-less_one : (count i : ℕ) → i < count → count - i ≡ suc (count - (i + 1))
-less_one count i h = omega arith
-
-pub samples_bad : (count i : ℕ) (read : List Sample) (b : Before) (old : List Bool) (fault : XorFault) → i < count → Err fault ≡ sample_at b old → samples_at (count - i) read b old ≡ Err fault
-unfolding samples_at
-samples_bad count i read b old fault h e =
-    ap (λ (n : ℕ). samples_at n read b old) (less_one count i h) ∙ sym (ap (λ (r : Result (Before × List Bool) XorFault). r >>= λ x. samples_at (count - (i + 1)) (read ++ sample_of x.0 ∷ []) x.0 x.1) e)
-
-pub samples_more : (count i : ℕ) (read more : List Sample) (b n : Before) (old new : List Bool) → i < count → Ok (n, new) ≡ sample_at b old → more ≡ read ++ sample_of n ∷ []
-    → samples_at (count - (i + 1)) more n new ≡ samples_at (count - i) read b old
-unfolding samples_at
-samples_more count i read more b n old new h e f =
-    ap (λ (xs : List Sample). samples_at (count - (i + 1)) xs n new) f ∙ ap (λ (r : Result (Before × List Bool) XorFault). r >>= λ x. samples_at (count - (i + 1)) (read ++ sample_of x.0 ∷ []) x.0 x.1) e
-    ∙ sym (ap (λ (m : ℕ). samples_at m read b old) (less_one count i h))
-
-pub samples_done : (count i : ℕ) (read : List Sample) (b : Before) (old : List Bool) → count ≤ i → samples_at (count - i) read b old ≡ Ok read
-unfolding samples_at
-samples_done count i read b old h = let none : count - i ≡ 0 = omega arith in ap (λ (n : ℕ). samples_at n read b old) none

@@ -15,10 +15,10 @@ use Rattle.hw_bytes.proofs.Groups.{uvarint_at-again}
 use Rattle.hw_bytes.proofs.Varints.{varint_at-again}
 use Rattle.hw_bytes.proofs.Shortest.{uvarint_shortest, varint_shortest}
 use Rattle.xor_chunk.specs.Bits.{bits_in}
-use Rattle.head_column.specs.Chunks.{IsFit}
+use Rattle.xor_chunk.specs.Samples.{IsFit}
 use Rattle.xor_chunk.specs.Chunks.{pattern, plus, minus, second, value_bits, window_after, samples_bits, tail_bits, count_bytes, first_bytes, delta_bytes, head_bytes, behind_head, chunk_bits, xor_text, IsXorChunk}
 use Rattle.xor_chunk.specs.Reading.{sample_of, samples_at, tail_at, second_at, first_at, unpacked}
-use Rattle.head_column.specs.declared.items.Sample.{Sample}
+use Rattle.xor_chunk.specs.declared.sample.Sample.{Sample}
 use Rattle.xor_chunk.specs.declared.before.BitWindow.{BitWindow}
 use Rattle.xor_chunk.specs.declared.fault.XorFault.{XorFault}
 use Rattle.xor_chunk.specs.declared.fault.XorFault.TheVariants.{Memory}
@@ -41,18 +41,18 @@ pub count_small : (n : ℕ) → n ≤ 65535 → IsBytes (count_bytes n)
 unfolding count_bytes
 count_small n h = (fixed_shortest 2 n (omega arith)).small
 
-head_small : (samples : List Sample) → All IsFit samples → IsBytes (head_bytes samples)
+pub head_small : (samples : List Sample) → All IsFit samples → IsBytes (head_bytes samples)
 head_small [] fit = λ i. omega arith
 head_small (a ∷ []) fit = first_small a (All-head IsFit a [] fit)
 head_small (a ∷ b ∷ more) fit = bytes_append (first_bytes a) (delta_bytes a b) (first_small a (All-head IsFit a (b ∷ more) fit)) (delta_small a b)
 
 -- ---- each is read back
 
-count_back : (n : ℕ) (rest : List ℕ) → n ≤ 65535 → n ≡ big_number 2 (count_bytes n ++ rest)
+pub count_back : (n : ℕ) (rest : List ℕ) → n ≤ 65535 → n ≡ big_number 2 (count_bytes n ++ rest)
 unfolding count_bytes
 count_back n rest h = sym (big_number-reads_back 2 n rest (omega arith))
 
-count_drop : (n : ℕ) (rest : List ℕ) → rest ≡ drop 2 (count_bytes n ++ rest)
+pub count_drop : (n : ℕ) (rest : List ℕ) → rest ≡ drop 2 (count_bytes n ++ rest)
 unfolding count_bytes
 count_drop n rest = sym (drop_at (big_bytes 2 n) rest 2 (length-bytes_high_first 2 n))
 
@@ -105,7 +105,7 @@ tail_round a b more zeros fa fb fit =
     ∙ ap (λ (n : ℕ). samples_at n (a ∷ b ∷ []) (second a b) rest) left
     ∙ samples_round more (a ∷ b ∷ []) (second a b) zeros before fit
 
-head_round : (samples : List Sample) (back : List ℕ) (zeros : List Bool) → All IsFit samples → bits_in back ≡ behind_head samples ++ zeros → first_at (length samples) (head_bytes samples ++ back) ≡ Ok samples
+pub head_round : (samples : List Sample) (back : List ℕ) (zeros : List Bool) → All IsFit samples → bits_in back ≡ behind_head samples ++ zeros → first_at (length samples) (head_bytes samples ++ back) ≡ Ok samples
 head_round [] back zeros fit e = first_none 0 back refl
 head_round (a ∷ []) back zeros fit e = first_round 1 a back (λ h. omega (arith, h)) (All-head IsFit a [] fit) ∙ second_one 1 a back refl
 head_round (a ∷ b ∷ more) back zeros fit e =

@@ -10,11 +10,11 @@ use Rattle.std.proofs.lemmas.List.{append-nil}
 use Rattle.std.proofs.lemmas.List.Elements.{All-head, All-tail}
 use Rattle.std.proofs.lemmas.Nat.{xor_lt, mod_below, pow_pos}
 use Rattle.xor_chunk.specs.Bits.{bits_of}
-use Rattle.head_column.specs.Chunks.{IsFit}
+use Rattle.xor_chunk.specs.Samples.{IsFit}
 use Rattle.xor_chunk.specs.Chunks.{pattern, plus, minus, is_near, step_bits, opened, width, within, opening, reused, used, changed_bits, value_bits, window_after, sample_bits, after, samples_bits}
 use Rattle.xor_chunk.specs.Private.{Holds}
 use Rattle.xor_chunk.specs.Reading.{widened, near_at, step_at, within_at, or_short, ◌>>=◌, said_width, window_of, window_at, changed_at, value_at, next, sample_at, sample_of, samples_at}
-use Rattle.head_column.specs.declared.items.Sample.{Sample}
+use Rattle.xor_chunk.specs.declared.sample.Sample.{Sample}
 use Rattle.xor_chunk.specs.declared.before.BitWindow.{BitWindow}
 use Rattle.xor_chunk.specs.declared.before.Before.{Before}
 use Rattle.xor_chunk.specs.declared.fault.XorFault.{XorFault}

@@ -4,7 +4,7 @@ use Rattle.std.specs.Prelude.{replicate, bit_xor}
 use Rattle.std.proofs.lemmas.List.{length-replicate}
 use Rattle.byteorder.specs.Numbers.{length-bytes_high_first}
 use Rattle.hw_bytes.specs.Writing.{big_bytes, uvarint, uvarint_in, varint}
-use Rattle.head_column.specs.declared.items.Sample.{Sample}
+use Rattle.xor_chunk.specs.declared.sample.Sample.{Sample}
 use Rattle.xor_chunk.specs.Bits.{bits_of, bits_in}
 use Rattle.xor_chunk.specs.Private.{IsPad}
 use Rattle.xor_chunk.specs.Chunks.{pattern, minus, is_near, step_bits, opened, width, within, opening, reused, changed_bits, value_bits, sample_bits, after, samples_bits, second, count_bytes, first_bytes, delta_bytes, head_bytes, behind_head, chunk_bits, is_whole_chunk, xor_text}

@@ -1,15 +1,13 @@
 -- What the encoder appends.
-use Rattle.std.proofs.Common.{◌≡◌, ℕ, suc, ◌+◌, ◌-◌, ◌*◌, ◌%◌, ◌^◌, ◌<◌, ◌≤◌, Bool, true, false, eqb, leb, ltb, List, [], ◌∷◌, ◌++◌, Option, Some, None, ⊎_elim, refl, sym, ap, ◌∙◌, subst, arith, append_assoc, length, drop, get_or, length-drop}
-use Rattle.std.specs.Prelude.{◌||◌, bit_xor}
-use Rattle.std.proofs.lemmas.List.{drop_more, nil_from_length, append-nil}
+use Rattle.std.proofs.Common.{◌≡◌, ℕ, zero, suc, ◌+◌, ◌-◌, ◌*◌, ◌/◌, ◌%◌, ◌^◌, ◌<◌, ◌≤◌, Bool, true, false, eqb, leb, ltb, List, [], ◌∷◌, ◌++◌, Option, Some, None, ⊎_elim, refl, sym, ap, ◌∙◌, subst, arith, append_assoc}
+use Rattle.std.specs.Prelude.{◌||◌}
 use Rattle.std.proofs.lemmas.Bool.{eq-eqb, ne_eqb, le-leb, lt-leb, lt-ltb, le-ltb, cases_lt}
-use Rattle.std.proofs.lemmas.Nat.{mod_below, one_shl, pow_below, pow_pos}
-use Rattle.xor_chunk.specs.Bits.{bits_of}
-use Rattle.xor_chunk.specs.Chunks.{is_near, step_bits, opening, within, value_bits, changed_bits, window_after, is_whole, reused, opened, width, sample_bits, samples_bits, after, ends_whole, pattern}
+use Rattle.std.proofs.lemmas.Nat.{mod_below, one_shl, pow_below, pow_pos, shr_below}
+use Rattle.hw_bytes.specs.Writing.{uvarint, uvarint_in}
+use Rattle.xor_chunk.specs.Bits.{bits_of, bits_in}
+use Rattle.xor_chunk.specs.Chunks.{is_near, step_bits, opening, within, value_bits, changed_bits, window_after, is_whole, reused, opened, width}
 use Rattle.xor_chunk.specs.declared.before.BitWindow.{BitWindow}
-use Rattle.head_column.specs.declared.items.Sample.{Sample}
-use Rattle.xor_chunk.specs.declared.before.Before.{Before}
-use Rattle.xor_chunk.proofs.Bits.{bits_of-join}
+use Rattle.xor_chunk.proofs.Bits.{bits_of-join, bits_in-cons, bits_in-one}
 
 -- ---- times
 
@@ -107,31 +105,45 @@ pub value_again : (o : Option BitWindow) (x : ℕ) (w : BitWindow) → (x ≡ 0 
 unfolding value_bits window_after is_whole changed_bits
 value_again o x w h e = let z : eqb x 0 ≡ false = ne_eqb x 0 h in (ap (λ (bs : List Bool). bs ++ within w x) two_10 ∙ rw (z, e) refl, rw (z, e) refl, rw (z, e) refl)
 
--- ---- samples
+-- ---- groups of seven bits
 
-pub put_more : (old new all : List Bool) (b n : Before) (samples : List Sample) (i : ℕ) (d : Sample) → i < length samples → new ≡ old ++ sample_bits b (get_or samples i d) → n ≡ after b (get_or samples i d)
-    → old ++ samples_bits b (drop i samples) ≡ all → new ++ samples_bits n (drop (i + 1) samples) ≡ all
-unfolding samples_bits
-put_more old new all b n samples i d h e f g =
-    let x : Sample = get_or samples i d in
-    ap (λ (bs : List Bool). bs ++ samples_bits n (drop (i + 1) samples)) e ∙ ap (λ (m : Before). (old ++ sample_bits b x) ++ samples_bits m (drop (i + 1) samples)) f
-    ∙ append_assoc old (sample_bits b x) (samples_bits (after b x) (drop (i + 1) samples)) ∙ ap (λ (xs : List Sample). old ++ samples_bits b xs) (sym (drop_more samples i d h)) ∙ g
+-- the groups before those of `rest` are put, and there is memory for the others
+pub record ArePut (bits all : List Bool) (rest room most : ℕ) : Type 0 where
+  pub left : ℕ
+  pub few : left ≤ 9
+  pub small : rest < 2 ^ (7 * left + 1)
+  pub parts : bits ++ bits_in (uvarint_in left rest) ≡ all
+  pub room_is : most ≤ room + 8 * (9 - left)
 
-pub put_all : (old all : List Bool) (b : Before) (samples : List Sample) (i : ℕ) → length samples ≤ i → old ++ samples_bits b (drop i samples) ≡ all → old ≡ all
-unfolding samples_bits
-put_all old all b samples i h e =
-    let none : drop i samples ≡ [] = nil_from_length (drop i samples) (omega (arith, length-drop i samples)) in
-    sym (ap (λ (xs : List Sample). old ++ samples_bits b xs) none ∙ append-nil old) ∙ e
+pub groups_none : (bits : List Bool) (n room : ℕ) → n < 2 ^ 64 → ArePut bits (bits ++ bits_in (uvarint n)) n room room
+unfolding uvarint
+groups_none bits n room h = record { left = 9; few = omega arith; small = h; parts = refl; room_is = omega arith }
 
-pub whole_more : (old new all : Bool) (b n : Before) (samples : List Sample) (i : ℕ) (d : Sample) → i < length samples → new ≡ is_whole b.window (bit_xor b.value (pattern (get_or samples i d).value)) → n ≡ after b (get_or samples i d)
-    → ends_whole old b (drop i samples) ≡ all → ends_whole new n (drop (i + 1) samples) ≡ all
-unfolding ends_whole
-whole_more old new all b n samples i d h e f g =
-    ap (λ (w : Bool). ends_whole w n (drop (i + 1) samples)) e ∙ ap (λ (m : Before). ends_whole (is_whole b.window (bit_xor b.value (pattern (get_or samples i d).value))) m (drop (i + 1) samples)) f
-    ∙ ap (λ (xs : List Sample). ends_whole old b xs) (sym (drop_more samples i d h)) ∙ g
+one_group : (k n : ℕ) → n < 128 → uvarint_in k n ≡ n ∷ []
+unfolding uvarint_in
+one_group zero n h = refl
+one_group (suc k) n h = rw (lt-ltb n 128 h) refl
 
-pub whole_all : (old all : Bool) (b : Before) (samples : List Sample) (i : ℕ) → length samples ≤ i → ends_whole old b (drop i samples) ≡ all → old ≡ all
-unfolding ends_whole
-whole_all old all b samples i h e =
-    let none : drop i samples ≡ [] = nil_from_length (drop i samples) (omega (arith, length-drop i samples)) in
-    sym (ap (λ (xs : List Sample). ends_whole old b xs) none) ∙ e
+more_groups : (k n : ℕ) → 128 ≤ n → uvarint_in (suc k) n ≡ (n % 128 + 128) ∷ uvarint_in k (n / 128)
+unfolding uvarint_in
+more_groups k n h = rw (le-ltb n 128 h) refl
+
+pub groups_more : (bits new all : List Bool) (rest room room' most : ℕ) → 128 ≤ rest → ArePut bits all rest room most → new ≡ bits ++ bits_of 8 (rest % 128 + 128) → room ≤ room' + 8 → ArePut new all (rest / 128) room' most
+groups_more bits new all rest room room' most h p e r = by p.left p.few p.small p.parts p.room_is
+  where
+    by : (k : ℕ) → k ≤ 9 → rest < 2 ^ (7 * k + 1) → bits ++ bits_in (uvarint_in k rest) ≡ all → most ≤ room + 8 * (9 - k) → ArePut new all (rest / 128) room' most
+    by zero few small parts is = absurd (omega (arith, h, small))
+    by (suc k) few small parts is =
+        let b : ℕ = rest % 128 + 128 in
+        let place : 7 * suc k + 1 ≡ (7 * k + 1) + 7 = omega arith in
+        record {
+          left = k;
+          few = omega (arith, few);
+          small = shr_below rest (7 * k + 1) 7 (subst (λ (n : ℕ). rest < 2 ^ n) place small);
+          parts = ap (λ (bs : List Bool). bs ++ bits_in (uvarint_in k (rest / 128))) e ∙ append_assoc bits (bits_of 8 b) (bits_in (uvarint_in k (rest / 128)))
+              ∙ ap (λ (bs : List Bool). bits ++ bs) (sym (bits_in-cons b (uvarint_in k (rest / 128))) ∙ ap bits_in (sym (more_groups k rest h))) ∙ parts;
+          room_is = omega (arith, few, is, r);
+        }
+
+pub groups_last : (bits new all : List Bool) (rest room most : ℕ) → rest < 128 → ArePut bits all rest room most → new ≡ bits ++ bits_of 8 rest → new ≡ all
+groups_last bits new all rest room most h p e = e ∙ ap (λ (bs : List Bool). bits ++ bs) (sym (bits_in-one rest) ∙ ap bits_in (sym (one_group p.left rest h))) ∙ p.parts

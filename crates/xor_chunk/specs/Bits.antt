@@ -1,6 +1,6 @@
 -- Bits of numbers and of bytes, the highest first: the order of tsdb/chunkenc/bstream.go of Prometheus 2.42, which its functions named here keep.
 use Rattle.std.specs.Prelude.{ℕ, zero, suc, ◌+◌, ◌-◌, ◌/◌, ◌%◌, ◌^◌, ◌==◌, if◌then◌else◌, Bool, false, List, [], ◌∷◌, ◌++◌, length, map, replicate}
-use Rattle.head_column.specs.Chunks.{parts}
+use Rattle.xor_chunk.specs.Parts.{parts}
 
 -- the lowest k bits of n, the highest of them first: what `writeBits(n, k)` appends
 unfoldable pub bits_of : ℕ → ℕ → List Bool

@@ -4,7 +4,7 @@ use Rattle.std.specs.Prelude.{◌≡◌, ℕ, ◌+◌, ◌-◌, ◌/◌, ◌%◌
 use Rattle.std.specs.Int.{w64, cast_unsigned, leading_zeros, trailing_zeros}
 use Rattle.hw_bytes.specs.Writing.{big_bytes, uvarint, varint}
 use Rattle.xor_chunk.specs.Bits.{bits_of, bits_in, bytes_of}
-use Rattle.head_column.specs.declared.items.Sample.{Sample}
+use Rattle.xor_chunk.specs.declared.sample.Sample.{Sample}
 use Rattle.xor_chunk.specs.declared.before.BitWindow.{BitWindow}
 use Rattle.xor_chunk.specs.declared.before.Before.{Before}
 

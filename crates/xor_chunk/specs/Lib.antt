@@ -1,5 +1,8 @@
+pub mod Parts
+pub mod Samples
 pub mod Bits
 pub mod Chunks
 pub mod Reading
 pub mod Private
 pub mod Faults
+pub mod Writing

@@ -7,7 +7,7 @@ use Rattle.hw_bytes.specs.Writing.{big_number}
 use Rattle.hw_bytes.specs.Reading.{uvarint_at, varint_at}
 use Rattle.xor_chunk.specs.Bits.{bits_in}
 use Rattle.xor_chunk.specs.Chunks.{plus, pattern, width}
-use Rattle.head_column.specs.declared.items.Sample.{Sample}
+use Rattle.xor_chunk.specs.declared.sample.Sample.{Sample}
 use Rattle.xor_chunk.specs.declared.before.BitWindow.{BitWindow}
 use Rattle.xor_chunk.specs.declared.before.Before.{Before}
 use Rattle.xor_chunk.specs.declared.fault.XorFault.{XorFault}
@@ -140,3 +140,16 @@ first_at count bytes = if count == 0 then Ok [] else or_bad (varint_at bytes) >>
 -- the samples that the bytes are read as: those of `XORChunk.Iterator`
 unfoldable pub unpacked : List ℕ → Result (List Sample) XorFault
 unpacked bytes = if nat_lt (length bytes) 2 then Err TooShort else first_at (big_number 2 bytes) (drop 2 bytes)
+
+abbrev pub or_none : Result (List Sample) XorFault → List Sample
+or_none (Err fault) = []
+or_none (Ok samples) = samples
+
+-- the samples, of which there are so many, of what follows their number; none if there is a fault
+unfoldable pub body_samples : ℕ → List ℕ → List Sample
+body_samples count body = or_none (first_at count body)
+
+-- what contracts see of a chunk that is being read: how many samples are left, and what they are read as
+pub record ReaderValue : Type 0 where
+  pub left : ℕ
+  pub rest : Result (List Sample) XorFault

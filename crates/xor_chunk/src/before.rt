@@ -4,7 +4,7 @@ ghost use Rattle.std.specs.Prelude.{◌≡◌, ◌+◌, ◌≤◌};
 ghost use Rattle.std.specs.Int.{w64, cast_signed};
 ghost use Rattle.xor_chunk.specs.Chunks.{width};
 
-use head_column::Sample;
+use crate::sample::Sample;
 
 // How many of the 64 bits are zeros, above and below those that are written.
 #[derive(Clone, Copy, Debug)]
@@ -42,4 +42,15 @@ impl Before {
             value: self.value.cast_signed(),
         }
     }
+}
+
+// What is kept of all samples of a chunk.
+#[derive(Clone, Copy, Debug)]
+pub(crate) enum Last {
+    // There is none.
+    Nothing,
+    // The only one.
+    First(Sample),
+    // The last one of two or more.
+    Later(Before),
 }

@@ -1,16 +1,15 @@
-//! Encoding chunks.
+//! What a sample appends to a chunk.
 
-ghost use Rattle.std.specs.Prelude.{◌≡◌, ◌≢◌, ◌<◌, ◌≤◌, ◌+◌, ◌^◌, ◌++◌, [], ◌∷◌, OnOk, IfOk, length, bit_xor};
-ghost use Rattle.hw_bytes.specs.Spellings.{IsBytes};
+ghost use Rattle.std.specs.Prelude.{◌≡◌, ◌<◌, ◌≤◌, ◌+◌, ◌^◌, ◌++◌, bit_xor};
+ghost use Rattle.hw_bytes.specs.Writing.{uvarint};
 ghost use Rattle.xor_chunk.specs.Bits.{bits_in};
-ghost use Rattle.xor_chunk.specs.Private.{Holds, IsPacked};
-ghost use Rattle.xor_chunk.specs.Chunks.{step_bits, opened, opening, reused, within, value_bits, window_after, sample_bits, after, is_whole, ends_whole, is_whole_chunk, samples_bits, tail_bits, count_bytes, first_bytes, delta_bytes, is_near as near_of, xor_text, pattern};
+ghost use Rattle.xor_chunk.specs.Private.{Holds, next_bits, next_last, next_whole};
+ghost use Rattle.xor_chunk.specs.Chunks.{step_bits, opened, opening, reused, within, value_bits, window_after, sample_bits, after, second as second_of, is_whole, first_bytes, delta_bytes, is_near as near_of, pattern};
 
-use crate::before::{Before, BitWindow};
+use crate::before::{Before, BitWindow, Last};
+use crate::sample::Sample;
 use crate::writer::BitWriter;
-use head_column::Sample;
-use hw_bytes::{put_be16, put_be64, put_uvarint, put_varint};
-use std::alloc::{AllocError, Global};
+use hw_bytes::zigzag;
 
 // Returns whether the bits are those of a signed number above -2^width and at most 2^width.
 fn is_near(width: u32, step: u64) -> bool
@@ -21,9 +20,13 @@ fn is_near(width: u32, step: u64) -> bool
     step <= near || u64::MAX - near < step - 1
 }
 
-// Appends the difference of two differences of times.
-fn put_step(bits: &mut BitWriter, step: u64) -> Result<(), AllocError>
-    ensures { OnOk result (bits.new ≡ bits.old ++ step_bits step) }
+// Appends the difference of two differences of times: at most 68 bits.
+#[inline(always)]
+fn put_step(bits: &mut BitWriter, step: u64)
+    requires { 68 ≤ bits.old.room }
+    ensures bits { bits.new.bits ≡ bits.old.bits ++ step_bits step }
+    ensures front { bits.new.front ≡ bits.old.front }
+    ensures room { bits.old.room ≤ bits.new.room + 68 }
 {
     if step == 0 {
         return bits.push(0, 1);
@@ -37,8 +40,8 @@ fn put_step(bits: &mut BitWriter, step: u64) -> Result<(), AllocError>
     if is_near(19, step) {
         return bits.push((0b1110 << 20) + step % (1 << 20), 24);
     }
-    bits.push(0b1111, 4)?;
-    bits.push_long(step, 64)
+    bits.push(0b1111, 4);
+    bits.push_long(step, 64);
 }
 
 // Returns the window of the bits that are not 0.
@@ -52,11 +55,15 @@ fn opened_window(xor: u64) -> BitWindow
 }
 
 // Appends the bits in the window.
-fn put_within(bits: &mut BitWriter, window: BitWindow, xor: u64) -> Result<(), AllocError>
+#[inline(always)]
+fn put_within(bits: &mut BitWriter, window: BitWindow, xor: u64)
     requires fits { Holds window xor }
-    ensures { OnOk result (bits.new ≡ bits.old ++ within window xor) }
+    requires room { 64 ≤ bits.old.room }
+    ensures bits { bits.new.bits ≡ bits.old.bits ++ within window xor }
+    ensures front { bits.new.front ≡ bits.old.front }
+    ensures room { bits.old.room ≤ bits.new.room + 64 }
 {
-    bits.push_long(xor >> window.trailing, window.width())
+    bits.push_long(xor >> window.trailing, window.width());
 }
 
 // Returns the last window, if there is one that leaves out no bit of the new one.
@@ -71,174 +78,139 @@ fn reused_window(window: Option<BitWindow>, fresh: BitWindow) -> Option<BitWindo
 }
 
 // Appends what opens a window.
-fn put_opening(bits: &mut BitWriter, window: BitWindow) -> Result<(), AllocError>
+fn put_opening(bits: &mut BitWriter, window: BitWindow)
     requires leading { window.leading < 32 }
     requires some { window.leading + window.trailing < 64 }
-    ensures { OnOk result (bits.new ≡ bits.old ++ opening window) }
+    requires room { 13 ≤ bits.old.room }
+    ensures bits { bits.new.bits ≡ bits.old.bits ++ opening window }
+    ensures front { bits.new.front ≡ bits.old.front }
+    ensures room { bits.old.room ≤ bits.new.room + 13 }
 {
     let upper = 96 + u64::from(window.leading);
-    bits.push(upper * 64 + u64::from(window.width() % 64), 13)
+    bits.push(upper * 64 + u64::from(window.width() % 64), 13);
 }
 
-// Appends a value, of which this is the difference from the one before. Returns the window after it, and whether the last number that
-// was written has whole bytes.
-fn put_value(
-    bits: &mut BitWriter,
-    window: Option<BitWindow>,
-    xor: u64,
-) -> Result<(Option<BitWindow>, bool), AllocError>
-    ensures put { OnOk result (bits.new ≡ bits.old ++ value_bits window xor) }
-    ensures after { IfOk result (λ next. next.0 ≡ window_after window xor) }
-    ensures whole { IfOk result (λ next. next.1 ≡ is_whole window xor) }
+// Appends a value, of which this is the difference from the one before: at most 77 bits. Returns the window after it, and whether the last
+// number that was written has whole bytes.
+#[inline(always)]
+fn put_value(bits: &mut BitWriter, window: Option<BitWindow>, xor: u64) -> (Option<BitWindow>, bool)
+    requires { 77 ≤ bits.old.room }
+    ensures bits { bits.new.bits ≡ bits.old.bits ++ value_bits window xor }
+    ensures after { result.0 ≡ window_after window xor }
+    ensures whole { result.1 ≡ is_whole window xor }
+    ensures front { bits.new.front ≡ bits.old.front }
+    ensures room { bits.old.room ≤ bits.new.room + 77 }
 {
     if xor == 0 {
-        bits.push(0, 1)?;
-        return Ok((window, false));
+        bits.push(0, 1);
+        return (window, false);
     }
     let fresh = opened_window(xor);
     let Some(open) = reused_window(window, fresh) else {
-        put_opening(bits, fresh)?;
-        put_within(bits, fresh, xor)?;
-        return Ok((Some(fresh), fresh.width() % 8 == 0));
+        put_opening(bits, fresh);
+        put_within(bits, fresh, xor);
+        return (Some(fresh), fresh.width() % 8 == 0);
     };
-    bits.push(0b10, 2)?;
-    put_within(bits, open, xor)?;
-    Ok((Some(open), open.width() % 8 == 0))
+    bits.push(0b10, 2);
+    put_within(bits, open, xor);
+    (Some(open), open.width() % 8 == 0)
 }
 
-// Appends a sample after two or more others. Returns what is kept of it, and whether the last number that was written has whole bytes.
-fn put_sample(
-    bits: &mut BitWriter,
-    before: Before,
-    sample: Sample,
-) -> Result<(Before, bool), AllocError>
-    ensures put { OnOk result (bits.new ≡ bits.old ++ sample_bits before sample) }
-    ensures after { IfOk result (λ next. next.0 ≡ after before sample) }
-    ensures whole { IfOk result (λ next. next.1 ≡ is_whole before.window (bit_xor before.value (pattern sample.value))) }
+// Appends the bytes of an uvarint: at most 80 bits.
+fn put_uvarint(bits: &mut BitWriter, number: u64)
+    requires { 80 ≤ bits.old.room }
+    ensures bits { bits.new.bits ≡ bits.old.bits ++ bits_in (uvarint number) }
+    ensures front { bits.new.front ≡ bits.old.front }
+    ensures room { bits.old.room ≤ bits.new.room + 80 }
+{
+    let mut rest = number;
+    while rest >= 128 {
+        bits.push(rest % 128 + 128, 8);
+        rest /= 128;
+    }
+    bits.push(rest, 8);
+}
+
+// Appends the first sample: at most 144 bits.
+fn put_first(bits: &mut BitWriter, first: Sample)
+    requires { 144 ≤ bits.old.room }
+    ensures bits { bits.new.bits ≡ bits.old.bits ++ bits_in (first_bytes first) }
+    ensures front { bits.new.front ≡ bits.old.front }
+    ensures room { bits.old.room ≤ bits.new.room + 144 }
+{
+    put_uvarint(bits, zigzag(first.time));
+    bits.push_long(first.value.cast_unsigned(), 64);
+}
+
+// Appends the second sample: at most 157 bits. Returns what is kept of it, and whether the last number that was written has whole bytes.
+fn put_second(bits: &mut BitWriter, first: Sample, second: Sample) -> (Before, bool)
+    requires { 157 ≤ bits.old.room }
+    ensures bits { bits.new.bits ≡ bits.old.bits ++ (bits_in (delta_bytes first second) ++ value_bits None (bit_xor (pattern first.value) (pattern second.value))) }
+    ensures after { result.0 ≡ second_of first second }
+    ensures whole { result.1 ≡ is_whole None (bit_xor (pattern first.value) (pattern second.value)) }
+    ensures front { bits.new.front ≡ bits.old.front }
+    ensures room { bits.old.room ≤ bits.new.room + 157 }
+{
+    let time = second.time.cast_unsigned();
+    let value = second.value.cast_unsigned();
+    let delta = time.wrapping_sub(first.time.cast_unsigned());
+    put_uvarint(bits, delta);
+    let (window, whole) = put_value(bits, None, first.value.cast_unsigned() ^ value);
+    let before = Before {
+        time,
+        value,
+        delta,
+        window,
+    };
+    (before, whole)
+}
+
+// Appends a sample after two or more others: at most 145 bits. Returns what is kept of it, and whether the last number that was written has
+// whole bytes.
+fn put_later(bits: &mut BitWriter, before: Before, sample: Sample) -> (Before, bool)
+    requires { 145 ≤ bits.old.room }
+    ensures bits { bits.new.bits ≡ bits.old.bits ++ sample_bits before sample }
+    ensures after { result.0 ≡ after before sample }
+    ensures whole { result.1 ≡ is_whole before.window (bit_xor before.value (pattern sample.value)) }
+    ensures front { bits.new.front ≡ bits.old.front }
+    ensures room { bits.old.room ≤ bits.new.room + 145 }
 {
     let time = sample.time.cast_unsigned();
     let value = sample.value.cast_unsigned();
     let delta = time.wrapping_sub(before.time);
-    put_step(bits, delta.wrapping_sub(before.delta))?;
-    let (window, whole) = put_value(bits, before.window, before.value ^ value)?;
+    put_step(bits, delta.wrapping_sub(before.delta));
+    let (window, whole) = put_value(bits, before.window, before.value ^ value);
     let next = Before {
         time,
         value,
         delta,
         window,
     };
-    Ok((next, whole))
+    (next, whole)
 }
 
-// Appends samples after two or more others. Returns whether the last number that was written has whole bytes, where that before them has
-// or has not.
-fn put_samples(
-    bits: &mut BitWriter,
-    whole: bool,
-    before: Before,
-    samples: &[Sample],
-) -> Result<bool, AllocError>
-    ensures put { OnOk result (bits.new ≡ bits.old ++ samples_bits before samples.now) }
-    ensures whole { IfOk result (λ last. last ≡ ends_whole whole before samples.now) }
+// Appends a sample: at most 157 bits. Returns what is kept of it, and whether the last number that was written has whole bytes.
+#[tactic(auto, unfolding(crate::specs::Private::next_bits, crate::specs::Private::next_last, crate::specs::Private::next_whole))]
+pub(crate) fn put_sample(bits: &mut BitWriter, last: Last, sample: Sample) -> (Last, bool)
+    requires { 157 ≤ bits.old.room }
+    ensures bits { bits.new.bits ≡ bits.old.bits ++ next_bits last sample }
+    ensures last { result.0 ≡ next_last last sample }
+    ensures whole { result.1 ≡ next_whole last sample }
+    ensures front { bits.new.front ≡ bits.old.front }
+    ensures room { bits.old.room ≤ bits.new.room + 157 }
 {
-    let mut before = before;
-    let mut whole = whole;
-    for sample in samples {
-        let (next, last) = put_sample(bits, before, *sample)?;
-        before = next;
-        whole = last;
+    match last {
+        Last::Nothing => {
+            put_first(bits, sample);
+            (Last::First(sample), true)
+        }
+        Last::First(first) => {
+            let (before, whole) = put_second(bits, first, sample);
+            (Last::Later(before), whole)
+        }
+        Last::Later(before) => {
+            let (next, whole) = put_later(bits, before, sample);
+            (Last::Later(next), whole)
+        }
     }
-    Ok(whole)
-}
-
-// Appends what is bits of the second sample, and all samples after it. Returns whether the last number that was written has whole bytes.
-fn put_tail(
-    bits: &mut BitWriter,
-    first: Sample,
-    second: Sample,
-    rest: &[Sample],
-) -> Result<bool, AllocError>
-    ensures put { OnOk result (bits.new ≡ bits.old ++ tail_bits first second rest.now) }
-    ensures whole { IfOk result (λ last. last ≡ is_whole_chunk (first ∷ second ∷ rest.now)) }
-{
-    let time = second.time.cast_unsigned();
-    let value = second.value.cast_unsigned();
-    let (window, whole) = put_value(bits, None, first.value.cast_unsigned() ^ value)?;
-    let before = Before {
-        time,
-        value,
-        delta: time.wrapping_sub(first.time.cast_unsigned()),
-        window,
-    };
-    put_samples(bits, whole, before, rest)
-}
-
-// Appends the number of samples.
-fn put_count(bytes: &mut Vec<u8>, count: usize) -> Result<(), AllocError>
-    requires { count ≤ 65535 }
-    ensures { OnOk result (bytes.new.items ≡ bytes.old.items ++ count_bytes count) }
-{
-    put_be16(bytes, count as u16)
-}
-
-// Appends the first sample.
-fn put_first(bytes: &mut Vec<u8>, first: Sample) -> Result<(), AllocError>
-    ensures { OnOk result (bytes.new.items ≡ bytes.old.items ++ first_bytes first) }
-{
-    put_varint(bytes, first.time)?;
-    put_be64(bytes, first.value.cast_unsigned())
-}
-
-// Appends the difference of the second time from the first.
-fn put_delta(bytes: &mut Vec<u8>, first: Sample, second: Sample) -> Result<(), AllocError>
-    ensures { OnOk result (bytes.new.items ≡ bytes.old.items ++ delta_bytes first second) }
-{
-    let time = first.time.cast_unsigned();
-    let delta = second.time.cast_unsigned().wrapping_sub(time);
-    put_uvarint(bytes, delta)
-}
-
-// Returns the bytes with those of the samples after the first one.
-fn with_more(
-    bytes: Vec<u8>,
-    first: Sample,
-    second: Sample,
-    rest: &[Sample],
-) -> Result<Vec<u8>, AllocError>
-    ensures small { IfOk result (λ text. IsBytes text.items) }
-    ensures packed { IfOk result (λ text. IsPacked text.items (is_whole_chunk (first ∷ second ∷ rest.now)) (bits_in (bytes.items ++ delta_bytes first second) ++ tail_bits first second rest.now)) }
-{
-    let mut bytes = bytes;
-    put_delta(&mut bytes, first, second)?;
-    let mut bits = BitWriter::behind(bytes);
-    let whole = put_tail(&mut bits, first, second, rest)?;
-    bits.finish(whole)
-}
-
-/// Returns the chunk of at most 65,535 samples, in the memory of `room`, whose bytes are lost. Returns an error if memory runs out.
-pub fn encode_in(room: Vec<u8>, samples: &[Sample]) -> Result<Vec<u8>, AllocError>
-    requires { length samples.now ≤ 65535 }
-    ensures { IfOk result (λ text. text.items ≡ xor_text samples.now) }
-{
-    let mut bytes = room;
-    bytes.clear();
-    put_count(&mut bytes, samples.len())?;
-    if samples.is_empty() {
-        return Ok(bytes);
-    }
-    let first = samples[0];
-    put_first(&mut bytes, first)?;
-    if samples.len() == 1 {
-        return BitWriter::behind(bytes).finish(true);
-    }
-    let (_, rest) = samples.split_at(2);
-    with_more(bytes, first, samples[1], rest)
-}
-
-/// Returns the chunk of at most 65,535 samples. Returns an error if memory runs out.
-pub fn encode(alloc: Global, samples: &[Sample]) -> Result<Vec<u8>, AllocError>
-    requires { length samples.now ≤ 65535 }
-    ensures { IfOk result (λ text. text.items ≡ xor_text samples.now) }
-{
-    encode_in(Vec::new(alloc), samples)
 }

@@ -2,9 +2,9 @@
 
 ghost use Rattle.std.specs.Prelude.{All};
 ghost use Rattle.hw_bytes.specs.Spellings.{IsBytes};
-ghost use Rattle.head_column.specs.Chunks.{IsFit};
+ghost use Rattle.xor_chunk.specs.Samples.{IsFit};
 
-use head_column::Sample;
+use crate::sample::Sample;
 
 // Each byte is below 256.
 pub(crate) fn are_bytes(_bytes: &[u8])

@@ -2,10 +2,10 @@
 
 ghost use Rattle.std.specs.Prelude.{◌≡◌, ◌↔◌, ◌<◌, ◌≤◌, ◌-◌, ◌^◌, ◌<ℤ◌, ◌≤ℤ◌, IsTrue, ℕ, pos, negsuc, List, [], ◌∷◌, All, Ok, length};
 ghost use Rattle.std.specs.Int.{w64, cast_signed};
-ghost use Rattle.head_column.specs.Chunks.{IsFit};
+ghost use Rattle.xor_chunk.specs.Samples.{IsFit};
 ghost use Rattle.xor_chunk.specs.Chunks.{is_near, xor_text};
 ghost use Rattle.xor_chunk.specs.Reading.{unpacked};
-ghost use Rattle.head_column.specs.declared.items.Sample.{Sample};
+ghost use Rattle.xor_chunk.specs.declared.sample.Sample.{Sample};
 
 /// A chunk stands for one list of at most 65,535 samples. A list has one chunk, which `xor_text` gives.
 pub fn one_xor_chunk()

@@ -3,15 +3,19 @@
 #![tactic(auto)]
 
 mod before;
+mod chunk_reader;
+mod chunk_writer;
 mod decoding;
 mod encoding;
 mod facts;
 mod fault;
 mod laws;
 mod reader;
+mod sample;
 mod writer;
 
-pub use decoding::{decode, decode_exact, decode_in};
-pub use encoding::{encode, encode_in};
+pub use chunk_reader::{ChunkReader, count_before, decode, decode_exact, decode_in};
+pub use chunk_writer::{ChunkWriter, encode, encode_in};
 pub use fault::XorFault;
 pub use laws::{near_numbers, one_xor_chunk, reads_back, server_chunks, short_chunk};
+pub use sample::Sample;

@@ -1,6 +1,6 @@
 use Rattle.std.proofs.Common.{List, subst}
 use Rattle.std.proofs.lemmas.List.{take_all}
-use Rattle.head_column.specs.declared.items.Sample.{Sample}
+use Rattle.head_column.specs.Samples.{Sample}
 use Rattle.block_cut.proofs.Found.{AreFound, found_none, found_one}
 use Rattle.block_cut.proofs.Written.{unless}
 use Rattle.block_cut.proofs.ranges.add_hours.Goals as goal

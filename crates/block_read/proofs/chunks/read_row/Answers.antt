@@ -1,6 +1,6 @@
 use Rattle.std.proofs.Common.{rules, ◌≡◌, ◌++◌, ◌∙◌, List, ap, Err}
 use Rattle.std.specs.Prelude.{pos}
-use Rattle.head_column.specs.declared.items.Sample.{Sample}
+use Rattle.head_column.specs.Samples.{Sample}
 use Rattle.index_text.specs.declared.row.ChunkMeta.{ChunkMeta}
 use Rattle.block_read.specs.declared.fault.PartFault.TheVariants.{Bad}
 use Rattle.block_read.proofs.Columns.{begun, followed, left_begun, left_over, next_at, not_followed, read_chunks, read_more}

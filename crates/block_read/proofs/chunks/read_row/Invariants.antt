@@ -1,5 +1,5 @@
 use Rattle.std.proofs.Common.{List, drop}
-use Rattle.head_column.specs.declared.items.Sample.{Sample}
+use Rattle.head_column.specs.Samples.{Sample}
 use Rattle.head_column.specs.Chunks.{chunk_samples, parts}
 use Rattle.block_read.specs.Blocks.{IsColumn}
 use Rattle.block_read.specs.Reading.{AreThere}

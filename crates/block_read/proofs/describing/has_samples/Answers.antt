@@ -1,6 +1,6 @@
 use Rattle.std.specs.Prelude.{pos, IsTrue}
 use Rattle.std.proofs.lemmas.List.Elements.{All-more}
-use Rattle.head_column.specs.declared.items.Sample.{Sample}
+use Rattle.head_column.specs.Samples.{Sample}
 use Rattle.head_column.specs.Hours.{is_in_hour}
 use Rattle.block_read.proofs.Described.{all_whole}
 use Rattle.block_read.proofs.describing.has_samples.Goals as goal

@@ -1,6 +1,6 @@
 use Rattle.std.proofs.Common.{◌≡◌, List, length, vec_len}
 use Rattle.head_column.specs.declared.items.Run.{Run}
-use Rattle.head_column.specs.declared.items.Sample.{Sample}
+use Rattle.head_column.specs.Samples.{Sample}
 use Rattle.index_text.specs.declared.row.IndexRow.{IndexRow}
 use Rattle.block_read.specs.declared.rows.BlockRow.{BlockRow}
 use Rattle.block_read.proofs.Popped.{Shared}

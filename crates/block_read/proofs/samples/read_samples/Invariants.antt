@@ -1,5 +1,5 @@
 use Rattle.std.proofs.Common.{◌≡◌, List, take}
-use Rattle.head_column.specs.declared.items.Sample.{Sample}
+use Rattle.head_column.specs.Samples.{Sample}
 use Rattle.block_read.specs.Blocks.{HasSamples}
 use Rattle.block_read.proofs.AllRows.{SoFar}
 use Rattle.block_read.proofs.samples.read_samples.Given as goal

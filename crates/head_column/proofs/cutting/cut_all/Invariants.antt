@@ -1,10 +1,9 @@
-use Rattle.std.proofs.Common.{◌≡◌, [], length, min}
-use Rattle.head_column.specs.Chunks.{chunk_samples}
+use Rattle.std.proofs.Common.{length}
 use Rattle.head_column.proofs.Windows.{AreCut}
 use Rattle.head_column.proofs.cutting.cut_all.Given as goal
 
-abbrev pub invariant-loop-count : goal.invariant-loop-count
-invariant-loop-count l = record { cut : AreCut l.chunks.items l.rest l.fn.samples; count : l.count ≡ min (length l.rest) chunk_samples; none : l.fn.samples ≡ [] → l.rest ≡ [] }
+abbrev pub invariant-loop-rest : goal.invariant-loop-rest
+invariant-loop-rest l = AreCut l.fn.form l.chunks.items l.rest l.fn.samples
 
-abbrev pub decreases-loop-count : goal.decreases-loop-count
-decreases-loop-count l = length l.rest
+abbrev pub decreases-loop-rest : goal.decreases-loop-rest
+decreases-loop-rest l = length l.rest

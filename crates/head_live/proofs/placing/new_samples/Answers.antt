@@ -1,7 +1,7 @@
 use Rattle.std.proofs.Common.{◌≡◌, ◌∙◌, ◌+◌, ◌<◌, All, AllPairs, List, ap, arith, drop, length, subst, sym}
 use Rattle.std.proofs.lemmas.Option.{unwrap_or-slice_get}
 use Rattle.std.specs.Prelude.{slice_get, unwrap_or}
-use Rattle.head_column.specs.declared.items.Sample.{Sample}
+use Rattle.head_column.specs.Samples.{Sample}
 use Rattle.head_column.proofs.Windows.{rises_drop}
 use Rattle.head_core.specs.Heads.{history_at}
 use Rattle.head_live.specs.declared.placed.PlacedSample.{PlacedSample}

@@ -7,8 +7,8 @@ use Rattle.xor_chunk.proofs.Steps.{value_0, value_new, value_again}
 use Rattle.xor_chunk.proofs.Windows.{opened_holds, opened_leading, reused_holds}
 use Rattle.xor_chunk.proofs.encoding.put_value.Goals as goal
 
-pub returns-then-xor-eq0-clause-put : goal.returns-then-xor-eq0-clause-put
-returns-then-xor-eq0-clause-put c = c.in_ok-push.ensures ∙ ap (λ (bs : List Bool). c.args.bits.now ++ bs) (value_0 c.args.window c.args.xor c.if-xor-eq0.true).0
+pub returns-then-xor-eq0-clause-bits : goal.returns-then-xor-eq0-clause-bits
+returns-then-xor-eq0-clause-bits c = c.push.ensures.bits ∙ ap (λ (bs : List Bool). c.args.bits.now.bits ++ bs) (value_0 c.args.window c.args.xor c.if-xor-eq0.true).0
 
 pub returns-then-xor-eq0-clause-after : goal.returns-then-xor-eq0-clause-after
 returns-then-xor-eq0-clause-after c = (value_0 c.args.window c.args.xor c.if-xor-eq0.true).1
@@ -26,11 +26,11 @@ put_opening-requires-clause-some c =
     let held = subst (λ (w : BitWindow). Holds w c.args.xor) (sym c.opened_window-fresh.ensures) (opened_holds c.args.xor some fits) in
     held.within
 
-pub put_within-requires : goal.put_within-requires
-put_within-requires c =
+pub put_within-requires-clause-fits : goal.put_within-requires-clause-fits
+put_within-requires-clause-fits c =
     let some : 0 < c.args.xor = search rules in
     let fits : c.args.xor < 2 ^ 64 = omega arith in
-    record { fits = subst (λ (w : BitWindow). Holds w c.args.xor) (sym c.opened_window-fresh.ensures) (opened_holds c.args.xor some fits) }
+    subst (λ (w : BitWindow). Holds w c.args.xor) (sym c.opened_window-fresh.ensures) (opened_holds c.args.xor some fits)
 
 pub width-requires : goal.width-requires
 width-requires c =
@@ -39,14 +39,14 @@ width-requires c =
     let held = subst (λ (w : BitWindow). Holds w c.args.xor) (sym c.opened_window-fresh.ensures) (opened_holds c.args.xor some fits) in
     omega (arith, held.within)
 
-pub returns-in_default-clause-put : goal.returns-in_default-clause-put
-returns-in_default-clause-put c =
+pub returns-in_default-clause-bits : goal.returns-in_default-clause-bits
+returns-in_default-clause-bits c =
     let ne : c.args.xor ≡ 0 → ⊥ = search rules in
     let w : BitWindow = c.opened_window-fresh.result in
     let is : w ≡ opened c.args.xor = c.opened_window-fresh.ensures in
     let none : reused c.args.window (opened c.args.xor) ≡ None = ap (reused c.args.window) (sym is) ∙ sym c.in_default.ensures in
-    c.in_ok-put_within.ensures ∙ ap (λ (bs : List Bool). bs ++ within w c.args.xor) c.in_ok-put_opening.ensures ∙ append_assoc c.args.bits.now (opening w) (within w c.args.xor)
-    ∙ ap (λ (v : BitWindow). c.args.bits.now ++ (opening v ++ within v c.args.xor)) is ∙ ap (λ (bs : List Bool). c.args.bits.now ++ bs) (value_new c.args.window c.args.xor ne none).0
+    c.put_within.ensures.bits ∙ ap (λ (bs : List Bool). bs ++ within w c.args.xor) c.put_opening.ensures.bits ∙ append_assoc c.args.bits.now.bits (opening w) (within w c.args.xor)
+    ∙ ap (λ (v : BitWindow). c.args.bits.now.bits ++ (opening v ++ within v c.args.xor)) is ∙ ap (λ (bs : List Bool). c.args.bits.now.bits ++ bs) (value_new c.args.window c.args.xor ne none).0
 
 pub returns-in_default-clause-after : goal.returns-in_default-clause-after
 returns-in_default-clause-after c =
@@ -62,12 +62,12 @@ returns-in_default-clause-whole c =
     let none : reused c.args.window (opened c.args.xor) ≡ None = ap (reused c.args.window) (sym is) ∙ sym c.in_default.ensures in
     ap (λ (k : ℕ). eqb (k % 8) 0) (c.width.ensures ∙ ap (λ (v : BitWindow). width v) is) ∙ (value_new c.args.window c.args.xor ne none).2
 
-pub put_within-requires-2 : goal.put_within-requires-2
-put_within-requires-2 c =
+pub put_within-requires-2-clause-fits : goal.put_within-requires-2-clause-fits
+put_within-requires-2-clause-fits c =
     let some : 0 < c.args.xor = search rules in
     let fits : c.args.xor < 2 ^ 64 = omega arith in
     let again : reused c.args.window (opened c.args.xor) ≡ Some c.in-Some.open = ap (reused c.args.window) (sym c.opened_window-fresh.ensures) ∙ sym c.in-Some.ensures in
-    record { fits = reused_holds c.args.window c.args.xor c.in-Some.open some fits again }
+    reused_holds c.args.window c.args.xor c.in-Some.open some fits again
 
 pub width-requires-2 : goal.width-requires-2
 width-requires-2 c =
@@ -77,13 +77,13 @@ width-requires-2 c =
     let held = reused_holds c.args.window c.args.xor c.in-Some.open some fits again in
     omega (arith, held.within)
 
-pub returns-clause-put : goal.returns-clause-put
-returns-clause-put c =
+pub returns-clause-bits : goal.returns-clause-bits
+returns-clause-bits c =
     let ne : c.args.xor ≡ 0 → ⊥ = search rules in
     let w : BitWindow = c.in-Some.open in
     let again : reused c.args.window (opened c.args.xor) ≡ Some w = ap (reused c.args.window) (sym c.opened_window-fresh.ensures) ∙ sym c.in-Some.ensures in
-    c.in_ok-put_within-2.ensures ∙ ap (λ (bs : List Bool). bs ++ within w c.args.xor) c.in_ok-push-2.ensures ∙ append_assoc c.args.bits.now (bits_of 2 2) (within w c.args.xor)
-    ∙ ap (λ (bs : List Bool). c.args.bits.now ++ bs) (value_again c.args.window c.args.xor w ne again).0
+    c.put_within-2.ensures.bits ∙ ap (λ (bs : List Bool). bs ++ within w c.args.xor) c.push-2.ensures.bits ∙ append_assoc c.args.bits.now.bits (bits_of 2 2) (within w c.args.xor)
+    ∙ ap (λ (bs : List Bool). c.args.bits.now.bits ++ bs) (value_again c.args.window c.args.xor w ne again).0
 
 pub returns-clause-after : goal.returns-clause-after
 returns-clause-after c =

@@ -2,8 +2,8 @@ use Rattle.std.proofs.Common.{arith, ◌≡◌, ◌<◌, ◌≤◌, ℕ, ap, sub
 use Rattle.std.specs.Prelude.{pos}
 use Rattle.std.proofs.lemmas.Bool.{cases_lt}
 use Rattle.std.proofs.lemmas.List.{get_or_default}
-use Rattle.head_column.specs.Chunks.{IsFit}
-use Rattle.head_column.specs.declared.items.Sample.{Sample}
+use Rattle.xor_chunk.specs.Samples.{IsFit}
+use Rattle.xor_chunk.specs.declared.sample.Sample.{Sample}
 use Rattle.xor_chunk.proofs.facts.are_fit.Goals as goal
 
 pub loop-sample-preserved : goal.loop-sample-preserved

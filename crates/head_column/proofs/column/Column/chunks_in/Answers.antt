@@ -1,4 +1,4 @@
-use Rattle.std.proofs.Common.{rules, ◌≡◌, ◌∙◌, ap, sym}
+use Rattle.std.proofs.Common.{◌∙◌, ap}
 use Rattle.std.specs.Prelude.{filter}
 use Rattle.head_column.specs.Hours.{is_in_hour}
 use Rattle.head_column.proofs.column.Column.chunks_in.Goals as goal
