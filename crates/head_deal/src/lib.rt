@@ -16,6 +16,7 @@ ghost use Rattle.std.specs.Prelude.{◌≡◌, IfOk, OnErr, OnOk};
 use std::alloc::AllocError;
 
 mod again;
+mod at_once;
 mod batches;
 mod dealing;
 mod joining;

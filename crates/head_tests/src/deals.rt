@@ -231,6 +231,27 @@ fn parts_in_any_order(rt: HostRuntime) -> Result<(), AllocError> {
     Ok(())
 }
 
+// Each item is applied at once, with the outcome that dealing it has.
+fn check_at_once(rt: &impl Abort, alloc: Global, workers: usize) -> Result<(), AllocError> {
+    let mut deal: Deal<Column> = new_deal(alloc, 7, workers, 3)?;
+    for (at, (slot, item)) in FIVE.iter().enumerate() {
+        if deal.items() > 0 || deal.slots() <= *slot as usize {
+            return Err(AllocError);
+        }
+        let told = deal.apply(*slot, item)?;
+        same(rt, at, Some(told), FIVE_OUTCOMES.get(at).copied());
+    }
+    check_columns(rt, workers, &joined(alloc, deal)?.builders)
+}
+
+#[test]
+fn items_applied_at_once(rt: HostRuntime) -> Result<(), AllocError> {
+    for workers in [1, 2, 7, 64] {
+        check_at_once(&rt, rt.alloc(), workers)?;
+    }
+    Ok(())
+}
+
 // Items for nine series, of which some have none, and what becomes of each.
 const GROWING: &[(u32, Item)] = &[
     (0, Item::Sample(kept!(10, 1))),

@@ -8,16 +8,19 @@ use inspect_files::{FileSurvey, Sums};
 const LEAST_BYTES: u64 = 16 << 20;
 
 // About how many bytes a replay by four workers takes without series, and for a series.
-const REPLAY_BYTES: u64 = 42 << 20;
+const REPLAY_BYTES: u64 = 29 << 20;
 
 const REPLAY_SERIES_BYTES: u64 = 330;
 
-// About how many bytes more a head takes for a series and for a sample, and a head and its block for a sample of the hour that is cut.
-const SERIES_BYTES: u64 = 500;
+// About how many bytes more a head takes for the items that wait for its workers, for a series, and for a sample, whose value mostly changes in
+// few bits; and a head and its block for a sample of the hour that is cut.
+const WAITING_BYTES: u64 = 13 << 20;
 
-const SAMPLE_BYTES: u64 = 17;
+const SERIES_BYTES: u64 = 600;
 
-const CUT_SAMPLE_BYTES: u64 = 42;
+const SAMPLE_BYTES: u64 = 5;
+
+const CUT_SAMPLE_BYTES: u64 = 32;
 
 // About how many bytes of memory five bytes of a file take while it is unpacked, with its text.
 const UNPACKED_FIFTHS: u64 = 12;
@@ -70,7 +73,10 @@ pub(crate) fn memory_of(sums: &Sums, files: &[FileSurvey]) -> Option<Memory> {
     let replay = series
         .saturating_mul(REPLAY_SERIES_BYTES)
         .saturating_add(REPLAY_BYTES);
-    let head = series.saturating_mul(SERIES_BYTES).saturating_add(replay);
+    let head = series
+        .saturating_mul(SERIES_BYTES)
+        .saturating_add(WAITING_BYTES)
+        .saturating_add(replay);
     let in_hour = samples / hours(sums.times);
     Some(Memory {
         replay: mebibytes(replay),

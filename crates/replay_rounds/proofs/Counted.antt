@@ -1,6 +1,6 @@
 -- Outcomes counted one after another.
 use Rattle.std.proofs.Common.{◌≡◌, ℕ, suc, ◌+◌, ◌<◌, ◌^◌, Bool, List, [], ◌∷◌, ◌++◌, length, take, drop, refl, sym, ap, subst, ◌∙◌, arith, append_assoc}
-use Rattle.std.specs.Prelude.{map, count_by, cond, slice_index_or, Err, Ok, OnErr, Result}
+use Rattle.std.specs.Prelude.{map, count_by, cond, slice_index_or, Err, Ok, OnErr, OnOk, Result}
 use Rattle.std.specs.List.{flat_map}
 use Rattle.std.proofs.lemmas.Grind.{flat_map-append}
 use Rattle.std.proofs.lemmas.List.{map-append, take-append-drop, drop_more, flat_map_more, take_more}
@@ -22,7 +22,7 @@ many f os = count_by (is_fate f) (map fate_of os)
 pub many_both : (f : Fate) (os ps : List Outcome) → many f (os ++ ps) ≡ many f os + many f ps
 many_both f os ps = ap (count_by (is_fate f)) (map-append fate_of os ps) ∙ sum_by-append (λ g. cond (is_fate f g) 1 0) (map fate_of os) (map fate_of ps)
 
-one_more : (os : List Outcome) (o : Outcome) (c : Counts) → AreCountsOfOutcomes os c → AreCountsOfOutcomes (os ++ o ∷ []) (with_fate (fate_of o) c)
+pub one_more : (os : List Outcome) (o : Outcome) (c : Counts) → AreCountsOfOutcomes os c → AreCountsOfOutcomes (os ++ o ∷ []) (with_fate (fate_of o) c)
 one_more os outcome.Accepted c h = record {
   accepted = ap (λ n. n + 1) h.accepted ∙ sym (many_both accepted os (outcome.Accepted ∷ []));
   stale = (let e = h.stale in let k = many_both stale os (outcome.Accepted ∷ []) in omega (arith, e, k));
@@ -174,3 +174,11 @@ parts_split {P} f before more ps i p lt =
 pub on_err_always : {T E P : Type 0} (r : Result T E) → P → OnErr r P
 on_err_always (Ok x) p = tt
 on_err_always (Err e) p = p
+
+pub on_err_of : {T E P Q : Type 0} (r : Result T E) → OnErr r P → (P → Q) → OnErr r Q
+on_err_of (Ok x) p f = tt
+on_err_of (Err e) p f = f p
+
+pub on_ok_of : {T E P Q : Type 0} (r : Result T E) → OnOk r P → (P → Q) → OnOk r Q
+on_ok_of (Ok x) p f = f p
+on_ok_of (Err e) p f = tt

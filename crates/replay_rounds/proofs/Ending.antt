@@ -4,7 +4,7 @@ use Rattle.std.specs.Prelude.{map}
 use Rattle.std.specs.List.{enumerate_from}
 use Rattle.std.proofs.lemmas.List.{append-nil}
 use Rattle.head_deal.specs.Jobs.{Job, State, Queued, Finished}
-use Rattle.head_deal.specs.Endings.{item_at, moved, moved_by, told, told_of, with_outcome_of, outcomes, slot_endings}
+use Rattle.head_deal.specs.Endings.{item_at, moved, moved_by, told, told_of, with_outcome_of, outcomes, job_endings, slot_endings}
 use Rattle.head_deal.specs.Dealing.{Dealing, course, end_slots, end_jobs, ending_values, ending_outcomes}
 use Rattle.head_deal.specs.Spreads.{dealt, dealt_all}
 use Rattle.head_deal.proofs.Steps.{slot_endings_more, job_endings_more}
@@ -122,6 +122,40 @@ module _ {B V : Type 0} (value : B → V) (after : V → Item → V) (outcome : 
               ∙ sym (outcomes_both after outcome slots items ((s, i) ∷ []));
           counts = h.counts;
         }
+
+    -- the outcome of an item that is applied at once stands after those of the items before it
+    pub outcomes_at_once : (s : ℕ) (i : Item) (o : Outcome) → d.jobs ≡ [] → told_of outcome s i (course value d).slots ≡ Finished o → h.counted ++ o ∷ [] ≡ outcomes_after after outcome slots (items ++ (s, i) ∷ [])
+    outcomes_at_once s i o none told_is =
+        let values_are : (course value d).slots ≡ values_after after slots items = sym (ap (slot_endings after (course value d).slots) none) ∙ h.values in
+        let counted_are : h.counted ≡ outcomes_after after outcome slots items =
+        sym (append-nil h.counted) ∙ ap (λ (js : List (Job Item Outcome)). h.counted ++ outcomes (job_endings after outcome (course value d).slots js)) (sym none) ∙ h.outcomes in
+        ap (λ (os : List Outcome). os ++ o ∷ []) counted_are
+        ∙ ap (λ (t : State Item Outcome). outcomes_after after outcome slots items ++ with_outcome_of t []) (sym told_is)
+        ∙ ap (λ (ps : List (ℕ × V)). outcomes_after after outcome slots items ++ with_outcome_of (told_of outcome s i ps) []) values_are
+        ∙ sym (outcomes_both after outcome slots items ((s, i) ∷ []))
+
+    -- an item is applied at once
+    pub ends_at_once : (e : Dealing B Item Outcome) (now : Counts) (s : ℕ) (i : Item) (o : Outcome) → d.jobs ≡ [] → e.jobs ≡ [] → (course value e).slots ≡ map (item_at after s i) (course value d).slots → told_of outcome s i (course value d).slots ≡ Finished o
+        → AreCountsOfOutcomes (h.counted ++ o ∷ []) now → Ends value after outcome slots (items ++ (s, i) ∷ []) e now
+    ends_at_once e now s i o none still slots_are told_is counted =
+        let values_are : (course value d).slots ≡ values_after after slots items = sym (ap (slot_endings after (course value d).slots) none) ∙ h.values in
+        record {
+          values = ap (slot_endings after (course value e).slots) still ∙ slots_are ∙ ap (map (item_at after s i)) values_are ∙ sym (values_snoc after outcome slots items (s, i));
+          counted = h.counted ++ o ∷ [];
+          outcomes =
+              ap (λ (js : List (Job Item Outcome)). (h.counted ++ o ∷ []) ++ outcomes (job_endings after outcome (course value e).slots js)) still
+              ∙ append-nil (h.counted ++ o ∷ [])
+              ∙ outcomes_at_once s i o none told_is;
+          counts = counted;
+        }
+
+    -- all outcomes, where an item is applied at once and others come after it
+    pub all_at_once : (s : ℕ) (i : Item) (o : Outcome) (more : List (ℕ × Item)) → d.jobs ≡ [] → told_of outcome s i (course value d).slots ≡ Finished o
+        → outcomes_after after outcome slots (items ++ (s, i) ∷ more) ≡ (h.counted ++ o ∷ []) ++ outcomes_after after outcome (values_after after slots (items ++ (s, i) ∷ [])) more
+    all_at_once s i o more none told_is =
+        ap (outcomes_after after outcome slots) (sym (append_assoc items ((s, i) ∷ []) more))
+        ∙ outcomes_both after outcome slots (items ++ (s, i) ∷ []) more
+        ∙ ap (λ (os : List Outcome). os ++ outcomes_after after outcome (values_after after slots (items ++ (s, i) ∷ [])) more) (sym (outcomes_at_once s i o none told_is))
 
     -- what was dealt is run and counted, and a new deal begins
     pub ends_again : (tag workers : ℕ) (builders : List B) (e : Dealing B Item Outcome) (now : Counts) → map value builders ≡ ending_values after (course value d) → AreCountsOfOutcomes (h.counted ++ ending_outcomes after outcome (course value d)) now

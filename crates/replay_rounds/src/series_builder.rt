@@ -22,6 +22,9 @@ pub trait SeriesBuilder: Builder<Item = Item, Outcome = Outcome> {
     fn of_new_series(alloc: Global, times: Run) -> Self
         ensures { Self.value result ≡ Self.value (blank times) };
 
+    /// Returns whether it takes no longer to apply an item than to deal it to a worker.
+    fn is_light() -> bool;
+
     /// Does nothing. Its clause is a law: the outcomes of a log's items are those that the log's counts say.
     fn counts_of_outcomes()
         ensures { (times : TimeRun) (t : Taken) → AreCountsOfOutcomes (outcomes_after Self.after Self.outcome (new_slots (Self.value (blank times)) (entries_of t.kept)) (resolved (entries_of t.kept))) (counts_of t) };
@@ -36,6 +39,10 @@ impl SeriesBuilder for Column {
         Column::new(alloc)
     }
 
+    fn is_light() -> bool {
+        false
+    }
+
     fn counts_of_outcomes() {
         items_make_series();
     }
@@ -48,6 +55,10 @@ impl SeriesBuilder for GatheringColumn {
 
     fn of_new_series(alloc: Global, _times: Run) -> GatheringColumn {
         GatheringColumn::new(alloc)
+    }
+
+    fn is_light() -> bool {
+        false
     }
 
     fn counts_of_outcomes() {
@@ -65,6 +76,10 @@ impl SeriesBuilder for KeepingColumn {
         KeepingColumn::new(alloc, times)
     }
 
+    fn is_light() -> bool {
+        false
+    }
+
     fn counts_of_outcomes() {
         items_make_series();
     }
@@ -77,6 +92,10 @@ impl SeriesBuilder for Tally {
 
     fn of_new_series(_alloc: Global, _times: Run) -> Tally {
         Tally::new()
+    }
+
+    fn is_light() -> bool {
+        true
     }
 
     fn counts_of_outcomes() {
