@@ -1,2 +1,3 @@
 pub mod BothDone
+pub mod Halves
 pub mod TicketRule

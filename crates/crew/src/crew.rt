@@ -1,16 +1,14 @@
 //! Jobs, and the threads that finish them.
 
-ghost use Rattle.std.specs.Prelude.{◌≡◌, ◌+◌, ◌^◌, ◌<◌, ◌≤◌, ◌++◌, IfOk, IsOkAnd, OnOk, vec_len};
-ghost use Rattle.std.specs.Thread.{IsSync, IsSend};
+ghost use Rattle.std.specs.Prelude.{◌≤◌, IfOk, OnOk, vec_len};
 ghost use Rattle.crew.specs.Jobs.{AreDone};
 
+use crate::beside::finish_beside;
 use crate::gate::{Gate, NoGate};
 use core::thread::Stack;
 use std::alloc::AllocError;
-use std::snapshot::Snapshot;
 use std::sync::Wait;
-use std::thread;
-use std::thread::{Promise, Threads};
+use std::thread::Threads;
 
 /// The work of one worker, which owns it and finishes it in its own thread.
 pub trait Job {
@@ -95,149 +93,29 @@ impl<'a, R: Threads + Wait + Sync, G: Gate + Sync> Crew<'a, R, G> {
         }
     }
 
-    /// Borrows the handle that starts threads and waits for them.
-    pub(crate) fn rt(&self) -> &'a R {
-        self.rt
-    }
-
-    /// Returns which threads may start.
-    pub(crate) fn starts(&self) -> Starts {
-        self.starts
-    }
-
     /// Finishes at most 64 jobs of the round `turn`, each in its own thread, and returns them in order. Joins all threads that it
     /// started before it returns, also on an error.
     pub fn finish<J: Job + Send + Drop>(&self, turn: u64, jobs: Vec<J>) -> Result<Vec<J>, CrewFault>
         requires { vec_len jobs ≤ 64 }
         ensures { IfOk result (λ after. AreDone J.done jobs.items after.items) }
     {
-        finish_all(self.rt, self.starts, self.gate, turn, jobs)
+        let ((), after) = finish_beside(self.rt, self.starts, self.gate, turn, jobs, || ())?;
+        Ok(after)
     }
-}
 
-/// What is known of the jobs that a thread returns: each job that it was given is finished.
-#[derive(Drop)]
-pub(crate) struct Finishes<J>(pub(crate) Snapshot<Vec<J>>);
-
-impl<J: Job> Promise<Result<Vec<J>, CrewFault>> for Finishes<J> {
-    ghost use Rattle.std.specs.Prelude.{IfOk};
-    ghost use Rattle.crew.specs.Jobs.{AreDone};
-
-    ghost kept_by = { λ p r. IfOk r (λ after. AreDone J.done p.0.value.items after.items) };
-}
-
-// Finishes one job, or none.
-fn finish_one<J: Job + Drop, G: Gate>(
-    gate: &G,
-    turn: u64,
-    worker: usize,
-    mut jobs: Vec<J>,
-) -> Result<Vec<J>, CrewFault>
-    requires { vec_len jobs ≤ 1 }
-    ensures { IfOk result (λ after. AreDone J.done jobs.items after.items) }
-{
-    J::enter(gate, worker, turn);
-    if !jobs.is_empty() {
-        jobs[0].finish()?;
+    /// Finishes jobs as `finish` does, but without a gate, while the calling thread runs `task`. Also returns what `task` returned. If a
+    /// thread can't start, `task` is not called.
+    pub fn finish_while<J: Job + Send + Drop, T: Drop, F: FnOnce() -> T + Drop>(
+        &self,
+        turn: u64,
+        jobs: Vec<J>,
+        task: F,
+    ) -> Result<(T, Vec<J>), CrewFault>
+        requires jobs { vec_len jobs ≤ 64 }
+        requires callable { F.IsAlwaysCallable task }
+        ensures done { IfOk result (λ r. AreDone J.done jobs.items r.1.items) }
+        ensures told { IfOk result (λ r. F.post task r.0) }
+    {
+        finish_beside(self.rt, self.starts, &NoGate, turn, jobs, task)
     }
-    Ok(jobs)
-}
-
-// Appends the jobs of the upper half to those of the lower.
-fn put_together<J: Drop>(
-    low: Result<Vec<J>, CrewFault>,
-    high: Result<Vec<J>, CrewFault>,
-) -> Result<Vec<J>, CrewFault>
-    ensures { IfOk result (λ all. IsOkAnd low (λ a. IsOkAnd high (λ b. all.items ≡ a.items ++ b.items))) }
-{
-    let mut all = low?;
-    let mut rest = high?;
-    all.append(&mut rest)?;
-    Ok(all)
-}
-
-// Finishes the jobs, each in its own thread: the calling thread takes the first one, and starts a thread for each upper half.
-#[cycle(halving)]
-fn finish_from<J: Job + Send + Drop, G: Gate + Sync, R: Threads + Wait + Sync>(
-    rt: &R,
-    starts: Starts,
-    gate: &G,
-    turn: u64,
-    first: usize,
-    mut jobs: Vec<J>,
-) -> Result<Vec<J>, CrewFault>
-    requires { first + vec_len jobs < 2 ^ 32 }
-    ensures { IfOk result (λ after. AreDone J.done jobs.items after.items) }
-{
-    if jobs.len() <= 1 {
-        return finish_one(gate, turn, first, jobs);
-    }
-    let half = jobs.len() / 2;
-    let rest = jobs.split_off(half)?;
-    thread::scope(
-        thread::scope_env(),
-        rt,
-        |scope| -> Result<Vec<J>, CrewFault>
-            requires { IsSync R.row × IsSync G.row × IsSend J.row × (0 < vec_len jobs) × (0 < vec_len rest) × (first + (half + vec_len rest) < 2 ^ 32) × (half ≡ vec_len jobs) }
-            ensures { IfOk result (λ after. AreDone J.done (jobs.items ++ rest.items) after.items) }
-        {
-            let were = Snapshot::of(&rest);
-            let there = move || -> Result<Vec<J>, CrewFault>
-                requires { IsSync R.row × IsSync G.row × IsSend J.row × (first + half + vec_len rest < 2 ^ 32) }
-                ensures { IfOk result (λ after. AreDone J.done rest.items after.items) }
-            { finish_from(rt, starts, gate, turn, first + half, rest) };
-            let stack = starts.stack(first + half);
-            let Ok(child) = stack.spawn_scoped_with(scope, Finishes(were), there) else {
-                return Err(CrewFault::Workers);
-            };
-            let low = finish_from(rt, starts, gate, turn, first, jobs);
-            let high = child.join(rt);
-            put_together(low, high)
-        },
-    )
-}
-
-/// Finishes the jobs without a gate, the first of them in the calling thread.
-pub(crate) fn finish_here<J: Job + Send + Drop, R: Threads + Wait + Sync>(
-    rt: &R,
-    starts: Starts,
-    turn: u64,
-    jobs: Vec<J>,
-) -> Result<Vec<J>, CrewFault>
-    requires { vec_len jobs ≤ 64 }
-    ensures { IfOk result (λ after. AreDone J.done jobs.items after.items) }
-{
-    finish_from(rt, starts, &NoGate, turn, 0, jobs)
-}
-
-// Finishes the jobs as `finish_from` does, but all of them in other threads: the calling thread only waits.
-fn finish_all<J: Job + Send + Drop, G: Gate + Sync, R: Threads + Wait + Sync>(
-    rt: &R,
-    starts: Starts,
-    gate: &G,
-    turn: u64,
-    jobs: Vec<J>,
-) -> Result<Vec<J>, CrewFault>
-    requires { vec_len jobs ≤ 64 }
-    ensures { IfOk result (λ after. AreDone J.done jobs.items after.items) }
-{
-    thread::scope(
-        thread::scope_env(),
-        rt,
-        |scope| -> Result<Vec<J>, CrewFault>
-            requires { vec_len jobs ≤ 64 }
-            ensures { IfOk result (λ after. AreDone J.done jobs.items after.items) }
-        {
-            let were = Snapshot::of(&jobs);
-            let all = move || -> Result<Vec<J>, CrewFault>
-                requires { vec_len jobs ≤ 64 }
-                ensures { IfOk result (λ after. AreDone J.done jobs.items after.items) }
-            { finish_from(rt, starts, gate, turn, 0, jobs) };
-            let stack = starts.stack(0);
-            let Ok(child) = stack.spawn_scoped_with(scope, Finishes(were), all) else {
-                return Err(CrewFault::Workers);
-            };
-            child.join(rt)
-        },
-    )
 }

@@ -11,11 +11,11 @@
 //! worker, and knows which numbers it drew. [`one_drawer`] says what follows for all passes of the same claims together.
 #![tactic(auto)]
 
+mod beside;
 mod claims;
 mod crew;
 mod gate;
 mod part;
-mod task;
 mod turns;
 
 pub use claims::{Claims, Known, Pass, one_drawer};
