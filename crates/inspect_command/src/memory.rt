@@ -18,7 +18,7 @@ const WAITING_BYTES: u64 = 13 << 20;
 
 const SERIES_BYTES: u64 = 600;
 
-const SAMPLE_BYTES: u64 = 5;
+const SAMPLE_BYTES: u64 = 6;
 
 const CUT_SAMPLE_BYTES: u64 = 32;
 

@@ -39,8 +39,8 @@ mod unpacked_log;
 mod unpacked_texts;
 mod unpacking;
 
-pub use directory::{names_in, read_in, read_log, read_paths, read_planned_file};
-pub use flaws::{flaw_of_reads, lost_count};
+pub use directory::{names_in, read_in, read_paths, read_planned_file};
+pub use flaws::lost_count;
 pub use heads::{
     RescuedHead, UndamagedLog, rescued_head, undamaged_at, undamaged_head, undamaged_source,
 };
@@ -52,8 +52,7 @@ pub use lost_lines::push_lost;
 pub use name_slots::{Slot, checkpoint_slots, segment_slots};
 pub use opening::length_in;
 pub use planning::{plan_checkpoint, plan_log};
-pub use replaying::{ReplayedLog, TalliedLog, flaw_of, replay_in, slots_of, tally_in};
-pub use rescued_log::read_rescued;
+pub use replaying::{ReplayedLog, TalliedLog, replay_in, slots_of, tally_in};
 pub use rescuing::{RescuedText, rescue_text};
 pub use server::min_valid_of;
 pub use source::{FileRead, RescuedLog, Source, plan_files, read_file, read_source};

@@ -5,8 +5,9 @@
 //! each worker of the deal. Either way it makes the same.
 //!
 //! The items go to the builders of series, each in its slot ([`Rounds`]). Workers apply them at the end of a *round*, or earlier if there are
-//! many; or the calling thread does at once, where that takes no longer than to deal them. The builders end with the values that items applied one after another give, whatever the number of workers and of rounds. A builder
-//! is a whole column, or a tally of one ([`SeriesBuilder`]).
+//! many; or the calling thread does at once, where that takes no longer than to deal them. The builders end with the values that items
+//! applied one after another give, whatever the number of workers and of rounds. A builder is a whole column, or a tally of one
+//! ([`SeriesBuilder`]).
 #![tactic(auto)]
 
 mod applying;

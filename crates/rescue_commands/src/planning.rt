@@ -16,12 +16,12 @@ use store::PartStore;
 // About how many bytes of memory a replay takes without series.
 const REPLAY_BYTES: u64 = 100 << 20;
 
-// About how many bytes of memory a head takes for a series without its labels, for a label, and for a sample.
-const SERIES_BYTES: u64 = 250;
+// About how many bytes of memory a head takes for a series without its labels, for a label, and at most for a sample: most take 5.
+const SERIES_BYTES: u64 = 450;
 
 const LABEL_BYTES: u64 = 60;
 
-const SAMPLE_BYTES: u64 = 24;
+const SAMPLE_BYTES: u64 = 12;
 
 // About how many bytes of memory a block that is made takes for a label, and for a sample. In passes one is made at a time.
 const BLOCK_LABEL_BYTES: u64 = 170;
