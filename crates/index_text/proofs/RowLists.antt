@@ -16,7 +16,7 @@ use Rattle.index_text.specs.declared.row.IndexRow.{IndexRow}
 use Rattle.index_text.specs.Groups.{keys, members}
 use Rattle.index_text.specs.Index.{has_pair, labels_from, pairs}
 use Rattle.index_text.specs.declared.ordering.RowLabel.{RowLabel}
-use Rattle.index_text.specs.Lent.{compare_row_label, label_of, row_label_of}
+use Rattle.index_text.specs.Lent.{compare_row_label, row_label_of}
 use Rattle.index_text.specs.Posted.{ids_at, ids_of}
 use Rattle.index_text.specs.Sets.{IsBefore, IsAscending, ascending}
 use Rattle.index_text.proofs.Ranks.{Has, same_ascending, ascending-is, ascending-has, ascending-of}
@@ -272,10 +272,6 @@ place_below z i (r ∷ rows) h = by (Has-of_append compare_row_label z (map (λ 
     by : Has compare_row_label z (map (λ (l : Label). (l, i)) r.labels) ⊎ Has compare_row_label z (labels_from (i + 1) rows) → (Has compare_row_label z (labels_from (i + 1) rows) → z.1 < i + 1 + length rows) → z.1 < i + suc (length rows)
     by (inl a) rest = let x = Has-of_map (λ (l : Label). (l, i)) compare_label compare_row_label z r.labels a in let here : z.1 ≡ i = ap (λ (y : Label × ℕ). y.1) x.2 in omega (arith, here)
     by (inr b) rest = omega (arith, rest b)
-
-pub alone_are : (ls : List RowLabel) → map (λ (l : RowLabel). label_of l.label) ls ≡ map (λ (l : Label × ℕ). l.0) (map row_label_of ls)
-alone_are [] = refl
-alone_are (l ∷ ls) = ap (λ t. label_of l.label ∷ t) (alone_are ls)
 
 below_each : (n : ℕ) (ls : List RowLabel) → ((z : Label × ℕ) → Has compare_row_label z (map row_label_of ls) → z.1 < n) → All (λ (l : RowLabel). l.row < n) ls
 below_each n [] h = All-nil (λ (l : RowLabel). l.row < n)

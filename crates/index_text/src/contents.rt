@@ -6,8 +6,9 @@ ghost use Rattle.index_text.specs.Index.{labels_from, pairs as pairs_of, symbols
 ghost use Rattle.index_text.specs.Lent.{compare_row_label, label_of, row_label_of};
 ghost use Rattle.index_text.specs.Sets.{ascending};
 
-use crate::gathering::{labels_alone, row_labels, texts_of};
-use crate::ordering::{LentLabel, RowLabel, distinct_labels, distinct_texts, sorted_row_labels};
+use crate::gathering::{row_labels, texts_of};
+use crate::groups::distinct_labels;
+use crate::ordering::{LentLabel, RowLabel, distinct_texts, sorted_row_labels};
 use crate::row::IndexRow;
 use std::alloc::{AllocError, Global};
 
@@ -40,7 +41,7 @@ pub(crate) fn contents_of(alloc: Global, rows: &[IndexRow]) -> Result<Contents<'
     ensures symbols { IfOk result (λ contents. nows contents.symbols.items ≡ symbols_of rows.now) }
 {
     let labels = sorted_row_labels(row_labels(alloc, rows)?);
-    let pairs = distinct_labels(labels_alone(alloc, labels.as_slice())?);
+    let pairs = distinct_labels(alloc, labels.as_slice())?;
     let symbols = distinct_texts(texts_of(alloc, pairs.as_slice())?);
     Ok(Contents {
         labels,

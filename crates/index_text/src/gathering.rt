@@ -27,29 +27,24 @@ fn push_row_labels<'a>(
     Ok(())
 }
 
+// Counts the labels of rows.
+fn count_labels(rows: &[IndexRow]) -> usize {
+    let mut count: usize = 0;
+    for row in rows {
+        count = count.saturating_add(row.labels.len());
+    }
+    count
+}
+
 // Lists the labels of rows, each with the index of its row.
 pub(crate) fn row_labels(alloc: Global, rows: &[IndexRow]) -> Result<Vec<RowLabel<'_>>, AllocError>
     ensures { IfOk result (λ labels. map row_label_of labels.items ≡ labels_from 0 rows.now) }
 {
-    let mut labels = Vec::new(alloc);
+    let mut labels = Vec::with_capacity(alloc, count_labels(rows))?;
     for place in 0..rows.len() {
         push_row_labels(&mut labels, &rows[place], place)?;
     }
     Ok(labels)
-}
-
-// Lists these labels without their rows.
-pub(crate) fn labels_alone<'a>(
-    alloc: Global,
-    labels: &[RowLabel<'a>],
-) -> Result<Vec<LentLabel<'a>>, AllocError>
-    ensures { IfOk result (λ alone. map label_of alone.items ≡ map (λ l. label_of l.label) labels.now) }
-{
-    let mut alone = Vec::with_capacity(alloc, labels.len())?;
-    for label in labels {
-        alone.push(label.label)?;
-    }
-    Ok(alone)
 }
 
 // Lists the names of labels.

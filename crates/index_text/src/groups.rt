@@ -84,6 +84,25 @@ fn run_length<T: Grouped>(first: &T, elements: &[T]) -> usize
     elements.len()
 }
 
+// Lists the distinct labels of the sorted labels of rows.
+pub(crate) fn distinct_labels<'a>(
+    alloc: Global,
+    labels: &[RowLabel<'a>],
+) -> Result<Vec<LentLabel<'a>>, AllocError>
+    requires { IsAscending compare_row_label (map row_label_of labels.now) }
+    ensures { IfOk result (λ distinct. map label_of distinct.items ≡ labels_in (map row_label_of labels.now)) }
+{
+    let mut distinct = Vec::new(alloc);
+    let mut start = 0;
+    while start < labels.len() {
+        let first = element_at(labels, start);
+        let (_, rest) = labels.split_at(start);
+        distinct.push(first.label)?;
+        start += run_length(&first, rest);
+    }
+    Ok(distinct)
+}
+
 // Appends the label index of the labels of one name. `body` is scratch space.
 #[tactic(auto, unfolding(crate::specs::Index::label_index_body))]
 fn put_label_index(

@@ -2,9 +2,8 @@
 
 ghost use Rattle.std.specs.Prelude.{◌≡◌, map, IfOk};
 ghost use Rattle.index_text.specs.Gives.{nows};
-ghost use Rattle.index_text.specs.Lent.{label_of, row_label_of, compare_row_label};
+ghost use Rattle.index_text.specs.Lent.{row_label_of, compare_row_label};
 ghost use Rattle.index_text.specs.Sets.{ascending, text_cmp};
-ghost use Rattle.wal_record.specs.Labels.{compare_label};
 
 /// A borrowed label. Labels are ordered by name, then by value.
 #[derive(Clone, Copy, PartialEq, Eq, PartialOrd, Ord)]
@@ -28,16 +27,6 @@ pub(crate) fn distinct_texts<'a>(texts: Vec<&'a [u8]>) -> Vec<&'a [u8]>
     texts.sort_unstable();
     texts.dedup();
     texts
-}
-
-// Sorts labels and drops repeats.
-pub(crate) fn distinct_labels<'a>(labels: Vec<LentLabel<'a>>) -> Vec<LentLabel<'a>>
-    ensures { map label_of result.items ≡ ascending compare_label (map label_of labels.entry.items) }
-{
-    let mut labels = labels;
-    labels.sort_unstable();
-    labels.dedup();
-    labels
 }
 
 // Sorts the labels of rows and drops repeats.
