@@ -18,7 +18,7 @@ use Rattle.block_commands.specs.Folders.{block_files, chunk_paths, chunks_in, na
 
 -- ---- chunk files, up to one of them
 
-paths-append : (dir : List ℕ) (n : ℕ) (xs ys : List Text) → chunk_paths dir n (xs ++ ys) ≡ chunk_paths dir n xs ++ chunk_paths dir (n + length xs) ys
+pub paths-append : (dir : List ℕ) (n : ℕ) (xs ys : List Text) → chunk_paths dir n (xs ++ ys) ≡ chunk_paths dir n xs ++ chunk_paths dir (n + length xs) ys
 paths-append dir n [] ys = ap (λ m. chunk_paths dir m ys) (omega arith)
 paths-append dir n (x ∷ xs) ys = ap (λ more. named dir (zero_filled 6 n) x ∷ more) (paths-append dir (n + 1) xs ys ∙ ap (λ m. chunk_paths dir (n + 1) xs ++ chunk_paths dir m ys) (omega arith))
 

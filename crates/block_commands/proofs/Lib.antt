@@ -1,3 +1,5 @@
+pub mod ChunkCalls
+pub mod FolderCalls
 pub mod Folders
 pub mod Free
 pub mod Less

@@ -14,7 +14,7 @@ use Rattle.block_read.specs.declared.block.Block.{Block}
 use Rattle.hw_bytes.specs.Sums.{Text}
 use Rattle.new_files.specs.Crashes.{IsCrashSafe}
 use Rattle.new_files.specs.Folders.{FileAt, LeavesFolder, LeavesOldOrFolder}
-use Rattle.new_files.specs.Targets.{unfinished_of, zero_filled}
+use Rattle.new_files.specs.Targets.{TargetPaths, unfinished_of, zero_filled}
 use Rattle.answers.specs.declared.damage.Flaw.{Flaw}
 use Rattle.log_directory.specs.Sources.{IsSourceIn}
 use Rattle.answers.specs.Answers.{IsNoDamage}
@@ -41,6 +41,13 @@ block_files folder dir block =
 -- the directory of chunk files in a folder
 abbrev pub chunks_in : List ℕ → List ℕ
 chunks_in folder = path_join folder (codes "chunks")
+
+-- At the target's path is what was there, or a folder with the block's files; after a write that went well, the folder.
+abbrev pub WritesFolder : {S : Type 0} → (S → List Call → S → Type 0) → S → TargetPaths → Block → Type 0 → S → Type 0
+WritesFolder did old at block WentWell new =
+    let dirs = chunks_in at.unfinished ∷ [] in
+    let files = block_files at.unfinished (chunks_in at.unfinished) block in
+    IsCrashSafe did old (LeavesOldOrFolder at.path at.unfinished dirs files) (LeavesFolder at.path at.unfinished dirs files) WentWell new
 
 -- At the block's path is what was there, or a folder with its files; and all else as before, but for the unfinished folder.
 abbrev pub LeavesOldOrBlock : List ℕ → List ℕ → Block → Standing → (List ℕ → Option File) → Standing → Type 0

@@ -1,6 +1,5 @@
 //! How much a block has, as its meta.json says.
 
-use block_read::Block;
 use serde_json::Value;
 use std::alloc::{AllocError, Global};
 
@@ -32,8 +31,8 @@ fn stats_in(meta: &Value) -> Option<Stats> {
 }
 
 /// Returns how many samples, series and chunks a block has that was cut, as its meta.json says.
-pub fn stats_of(alloc: Global, block: &Block) -> Result<Stats, AllocError> {
-    match Value::from_slice(alloc, block.meta.as_slice()) {
+pub fn stats_of(alloc: Global, meta: &[u8]) -> Result<Stats, AllocError> {
+    match Value::from_slice(alloc, meta) {
         Ok(meta) => Ok(stats_in(&meta).unwrap_or(NOTHING)),
         Err(error) if error.is_memory() => Err(AllocError),
         // not reached: a block that was cut has a meta.json

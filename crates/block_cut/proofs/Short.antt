@@ -2,16 +2,19 @@
 use Rattle.std.proofs.Common.{◌≡◌, ℕ, zero, suc, ◌+◌, ◌*◌, ◌/◌, ◌%◌, ◌≤◌, Bool, true, false, List, [], ◌∷◌, length, map, take, drop, refl, arith, All}
 use Rattle.std.specs.Prelude.{ℤ, Option, None, Some, nat_lt, cond}
 use Rattle.std.proofs.lemmas.List.{length-append, length-take}
-use Rattle.std.proofs.lemmas.List.Elements.{All-append, All-cons, All-nil}
+use Rattle.std.proofs.lemmas.List.Elements.{All-cons, All-nil}
 use Rattle.hw_bytes.specs.Writing.{big_bytes, uvarint, uvarint_in}
 use Rattle.head_column.specs.Samples.{Sample}
-use Rattle.head_column.specs.declared.chunk.Chunk.{Chunk}
 use Rattle.head_column.specs.Chunks.{chunk_text, parts_in, sample_text, samples_text, time_text, value_text}
 use Rattle.xor_chunk.specs.Chunks.{xor_text}
 use Rattle.block_files.specs.declared.encoding.Encoding.{Encoding}
 use Rattle.block_files.specs.declared.encoding.Encoding.TheVariants.{Raw, Xor}
-use Rattle.block_files.specs.Files.{AreShort, all_texts, longest_chunk}
-use Rattle.block_read.specs.Blocks.{chunk_in, chunks_in, chunks_of_rows, data_in}
+use Rattle.block_files.specs.declared.places.ChunkSpan.{ChunkSpan}
+use Rattle.block_files.specs.Files.{longest_chunk}
+use Rattle.block_files.specs.Places.{span_of}
+use Rattle.block_read.specs.declared.rows.BlockRow.{BlockRow}
+use Rattle.block_read.specs.Blocks.{chunk_in, chunks_in, data_in}
+use Rattle.block_cut.specs.Cutting.{spans_in}
 
 uvarint_in-short : (k n : ℕ) → length (uvarint_in k n) ≤ suc k
 unfolding uvarint_in
@@ -45,6 +48,9 @@ chunk_text-short xs few =
 abbrev IsShort : List ℕ → Type 0
 IsShort bytes = length bytes ≤ longest_chunk
 
+abbrev IsShortSpan : ChunkSpan → Type 0
+IsShortSpan span = span.len ≤ longest_chunk
+
 -- how long XOR chunks are
 abbrev XorsAreShort : Type 0
 XorsAreShort = (samples : List Sample) → length samples ≤ 120 → length (xor_text samples) ≤ 2180
@@ -53,14 +59,14 @@ data-short : (e : Encoding) → XorsAreShort → (xs : List Sample) → length x
 data-short Raw law xs few = omega (arith, chunk_text-short xs few)
 data-short Xor law xs few = law xs few
 
-parts-short : (e : Encoding) → XorsAreShort → (k : ℕ) (xs : List Sample) → All IsShort (map (λ (c : Chunk). c.text) (map (chunk_in e) (parts_in k 120 xs)))
-parts-short e law zero xs = All-nil IsShort
-parts-short e law (suc k) [] = All-nil IsShort
+parts-short : (e : Encoding) → XorsAreShort → (k : ℕ) (xs : List Sample) → All IsShortSpan (map span_of (map (chunk_in e) (parts_in k 120 xs)))
+parts-short e law zero xs = All-nil IsShortSpan
+parts-short e law (suc k) [] = All-nil IsShortSpan
 parts-short e law (suc k) (x ∷ xs) =
-    All-cons IsShort (data_in e (take 120 (x ∷ xs))) (map (λ (c : Chunk). c.text) (map (chunk_in e) (parts_in k 120 (drop 120 (x ∷ xs)))))
+    All-cons IsShortSpan (span_of (chunk_in e (take 120 (x ∷ xs)))) (map span_of (map (chunk_in e) (parts_in k 120 (drop 120 (x ∷ xs)))))
     (data-short e law (take 120 (x ∷ xs)) (omega (arith, length-take 120 (x ∷ xs)))) (parts-short e law k (drop 120 (x ∷ xs)))
 
--- the chunks of any samples are short enough
-pub chunks-short : (e : Encoding) → ((samples : List Sample) → length samples ≤ 120 → length (xor_text samples) ≤ 2180) → (samples : List (List Sample)) → AreShort (chunks_of_rows e samples)
-chunks-short e law [] = All-nil IsShort
-chunks-short e law (xs ∷ rest) = All-append IsShort (map (λ (c : Chunk). c.text) (chunks_in e xs)) (all_texts (chunks_of_rows e rest)) (parts-short e law (length xs) xs) (chunks-short e law rest)
+-- the chunks of any rows are short enough
+pub spans-short : (e : Encoding) → ((samples : List Sample) → length samples ≤ 120 → length (xor_text samples) ≤ 2180) → (rows : List BlockRow) → All (All (λ (span : ChunkSpan). span.len ≤ longest_chunk)) (spans_in e rows)
+spans-short e law [] = All-nil (All IsShortSpan)
+spans-short e law (row ∷ rows) = All-cons (All IsShortSpan) (map span_of (chunks_in e row.samples)) (spans_in e rows) (parts-short e law (length row.samples) row.samples) (spans-short e law rows)

@@ -12,6 +12,8 @@ use Rattle.head_column.specs.Samples.{Rises}
 use Rattle.xor_chunk.proofs.Parts.{parts_are}
 use Rattle.index_text.specs.Rows.{IsChain}
 use Rattle.block_files.specs.declared.encoding.Encoding.{Encoding}
+use Rattle.block_files.specs.declared.places.ChunkSpan.{ChunkSpan}
+use Rattle.block_files.specs.Places.{span_of}
 use Rattle.block_read.specs.Blocks.{chunk_in, chunks_in}
 
 abbrev joined : List (List Sample) → List Sample
@@ -81,9 +83,9 @@ chunks-apart e xs h =
     apart_parts e (parts chunk_samples xs) cut.full (subst Rises (sym cut.joined) h)
 
 -- how many samples the chunks have
-parts_count : (e : Encoding) (ps : List (List Sample)) → sum_by (λ (c : Chunk). c.count) (map (chunk_in e) ps) ≡ length (joined ps)
+parts_count : (e : Encoding) (ps : List (List Sample)) → sum_by (λ (c : ChunkSpan). c.count) (map span_of (map (chunk_in e) ps)) ≡ length (joined ps)
 parts_count e [] = refl
-parts_count e (p ∷ ps) = sum_by-cons (λ (c : Chunk). c.count) (chunk_in e p) (map (chunk_in e) ps) ∙ ap (λ (n : ℕ). length p + n) (parts_count e ps) ∙ sym (length-append p (joined ps))
+parts_count e (p ∷ ps) = sum_by-cons (λ (c : ChunkSpan). c.count) (span_of (chunk_in e p)) (map span_of (map (chunk_in e) ps)) ∙ ap (λ (n : ℕ). length p + n) (parts_count e ps) ∙ sym (length-append p (joined ps))
 
-pub chunks-count : (e : Encoding) (xs : List Sample) → sum_by (λ (c : Chunk). c.count) (chunks_in e xs) ≡ length xs
+pub chunks-count : (e : Encoding) (xs : List Sample) → sum_by (λ (c : ChunkSpan). c.count) (map span_of (chunks_in e xs)) ≡ length xs
 chunks-count e xs = parts_count e (parts chunk_samples xs) ∙ ap length (parts_are chunk_samples (omega arith) xs).joined

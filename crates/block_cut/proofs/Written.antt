@@ -1,6 +1,6 @@
 -- The rows of a block's index, and its counts.
-use Rattle.std.proofs.Common.{Bool, true, false, Vec, Global, vec_len, ◌≡◌, ℕ, suc, ◌+◌, ◌<◌, ◌^◌, List, [], ◌∷◌, length, map, refl, sym, ap, subst, ◌∙◌, arith, All}
-use Rattle.std.specs.Prelude.{ℤ, ◌==◌, ◌≤ℤ◌, ◌<ℤ◌}
+use Rattle.std.proofs.Common.{Bool, true, false, ◌≡◌, ℕ, suc, ◌+◌, ◌<◌, ◌^◌, List, [], ◌∷◌, length, map, refl, sym, ap, subst, ◌∙◌, arith, All}
+use Rattle.std.specs.Prelude.{ℤ, ◌≤ℤ◌, ◌<ℤ◌}
 use Rattle.std.specs.Io.Iter.{u64_saturate}
 use Rattle.std.specs.List.{AllByRecursion, AllZip, flat_map, sum_by, zip}
 use Rattle.std.specs.declared.cmp.Ordering.TheVariants.{Less}
@@ -9,7 +9,6 @@ use Rattle.std.proofs.lemmas.List.Elements.{recursion_from_All}
 use Rattle.std.proofs.lemmas.List.Sums.{sum_by-cons}
 use Rattle.hw_bytes.specs.Lists.{along}
 use Rattle.wal_record.specs.Labels.{Labels, compare_labels}
-use Rattle.head_column.specs.declared.items.Run.{Run}
 use Rattle.head_column.specs.Samples.{Sample}
 use Rattle.head_column.specs.declared.chunk.Chunk.{Chunk}
 use Rattle.head_column.specs.Chunks.{chunk_samples, parts}
@@ -21,33 +20,18 @@ use Rattle.index_text.specs.declared.row.IndexRow.{IndexRow}
 use Rattle.index_text.specs.Rows.{AreRows, FitsChunk, FitsIndex, IsChain, IsRow}
 use Rattle.block_files.specs.declared.meta.Meta.{Meta}
 use Rattle.block_files.specs.declared.encoding.Encoding.{Encoding}
+use Rattle.block_files.specs.declared.places.ChunkSpan.{ChunkSpan}
 use Rattle.block_files.specs.Files.{references, row_references, texts}
-use Rattle.block_read.specs.declared.block.Block.{Block}
+use Rattle.block_files.specs.Places.{span_of}
 use Rattle.block_read.specs.declared.rows.BlockRow.{BlockRow}
 use Rattle.block_read.specs.Blocks.{IsRowOf, chunk_count as count_of_chunks, chunk_in, chunks_in, chunks_of_rows, file_limit, index_rows, meta_of, metas_of, samples_of_rows}
 use Rattle.block_read.proofs.Assembled.{flat_samples}
 use Rattle.block_read.proofs.Few.{are_few}
 use Rattle.block_read.proofs.Named.{index_chunks}
 use Rattle.block_cut.specs.declared.fault.CutFault.TheVariants as cut
-use Rattle.hour_rows.specs.declared.rows.CutRow.{CutRow}
-use Rattle.hour_rows.specs.Chunked.{in_chunks}
-use Rattle.block_cut.specs.Cutting.{chunk_count, index_rows_of, metas_in, named, sample_count}
+use Rattle.block_cut.specs.Cutting.{chunk_count, index_rows_of, metas_in, named, named_spans, references_in, sample_count, spans_in}
 use Rattle.block_cut.specs.Faults.{cut_fault}
 use Rattle.block_cut.proofs.Spans.{chunks-apart, chunks-count, chunks-forward}
-
--- ---- the columns of rows
-
-pub labels_are : (enc : Encoding) (bs : List BlockRow) → map (λ (r : CutRow). r.labels) (map (in_chunks enc) bs) ≡ map (λ (b : BlockRow). b.labels) bs
-labels_are enc [] = refl
-labels_are enc (b ∷ bs) = ap (λ (ls : List Labels). b.labels ∷ ls) (labels_are enc bs)
-
-pub chunks_are : (enc : Encoding) (bs : List BlockRow) → map (λ (r : CutRow). r.chunks) (map (in_chunks enc) bs) ≡ chunks_of_rows enc (samples_of_rows bs)
-chunks_are enc [] = refl
-chunks_are enc (b ∷ bs) = ap (λ (cs : List (List Chunk)). chunks_in enc b.samples ∷ cs) (chunks_are enc bs)
-
-pub hidden_are : (enc : Encoding) (bs : List BlockRow) → map (λ (r : CutRow). r.hidden) (map (in_chunks enc) bs) ≡ map (λ (b : BlockRow). b.hidden) bs
-hidden_are enc [] = refl
-hidden_are enc (b ∷ bs) = ap (λ (rs : List (List Run)). b.hidden ∷ rs) (hidden_are enc bs)
 
 -- ---- the rows of the index
 
@@ -142,41 +126,35 @@ index_rows-AreRows enc k those metas some each up e fit =
 
 -- ---- the counts
 
-samples_count : (enc : Encoding) (bs : List BlockRow) → sample_count (chunks_of_rows enc (samples_of_rows bs)) ≡ length (flat_map (λ (b : BlockRow). b.samples) bs)
+samples_count : (enc : Encoding) (bs : List BlockRow) → sample_count (spans_in enc bs) ≡ length (flat_map (λ (b : BlockRow). b.samples) bs)
 samples_count enc [] = refl
 samples_count enc (b ∷ bs) =
-    sum_by-cons chunk_count (chunks_in enc b.samples) (chunks_of_rows enc (samples_of_rows bs)) ∙ ap (λ (n : ℕ). n + sample_count (chunks_of_rows enc (samples_of_rows bs))) (chunks-count enc b.samples)
+    sum_by-cons chunk_count (map span_of (chunks_in enc b.samples)) (spans_in enc bs) ∙ ap (λ (n : ℕ). n + sample_count (spans_in enc bs)) (chunks-count enc b.samples)
     ∙ ap (λ (n : ℕ). length b.samples + n) (samples_count enc bs) ∙ sym (length-append b.samples (flat_map (λ (b : BlockRow). b.samples) bs))
 
-chunks_count : (enc : Encoding) (samples : List (List Sample)) → sum_by length (chunks_of_rows enc samples) ≡ count_of_chunks samples
+chunks_count : (enc : Encoding) (bs : List BlockRow) → sum_by length (spans_in enc bs) ≡ count_of_chunks (samples_of_rows bs)
 chunks_count enc [] = refl
-chunks_count enc (s ∷ samples) =
+chunks_count enc (b ∷ bs) =
     omega (
       arith,
-      sum_by-cons length (chunks_in enc s) (chunks_of_rows enc samples),
-      length-map (parts chunk_samples s) (chunk_in enc),
-      chunks_count enc samples,
-      length-append (parts chunk_samples s) (flat_map (parts chunk_samples) samples),
+      sum_by-cons length (map span_of (chunks_in enc b.samples)) (spans_in enc bs),
+      length-map (chunks_in enc b.samples) span_of,
+      length-map (parts chunk_samples b.samples) (chunk_in enc),
+      chunks_count enc bs,
+      length-append (parts chunk_samples b.samples) (flat_map (parts chunk_samples) (samples_of_rows bs)),
     )
 
 -- Where the index fits, no count stays at the greatest.
-pub counts_are : (enc : Encoding) (those : List BlockRow) (chunks : List (List Chunk)) (samples count : ℕ) → FitsIndex (index_rows enc those) → ((rows : List IndexRow) → FitsIndex rows → sum_by (λ (r : IndexRow). length r.chunks) rows < 2 ^ 37)
-    → chunks ≡ chunks_of_rows enc (samples_of_rows those) → samples ≡ u64_saturate (sample_count chunks) → count ≡ u64_saturate (sum_by length chunks)
+pub counts_are : (enc : Encoding) (those : List BlockRow) (spans : List (List ChunkSpan)) (samples count : ℕ) → FitsIndex (index_rows enc those) → ((rows : List IndexRow) → FitsIndex rows → sum_by (λ (r : IndexRow). length r.chunks) rows < 2 ^ 37)
+    → spans ≡ spans_in enc those → samples ≡ u64_saturate (sample_count spans) → count ≡ u64_saturate (sum_by length spans)
     → (samples ≡ length (flat_map (λ (b : BlockRow). b.samples) those)) × (count ≡ count_of_chunks (samples_of_rows those))
-counts_are enc those chunks samples count fits law e f g =
+counts_are enc those spans samples count fits law e f g =
     let few = are_few enc (index_rows enc those) (samples_of_rows those) (index_chunks enc those) (law (index_rows enc those) fits) in (
       omega (arith, f, few.few_samples, ap sample_count e, samples_count enc those, ap length (flat_samples those)),
-      omega (arith, g, few.few_chunks, ap (sum_by length) e, chunks_count enc (samples_of_rows those)),
+      omega (arith, g, few.few_chunks, ap (sum_by length) e, chunks_count enc those),
     )
 
 -- ---- what code makes of them
-
-abbrev pub block_of : Text → List Text → Text → Text → Block
-block_of index files stones meta = record { index = index; chunks = files; tombstones = stones; meta = meta }
-
-pub same_block : (index others : Text) (files more : List Text) (stones rest : Text) (meta text : Text) → index ≡ others → files ≡ more → stones ≡ rest → meta ≡ text → block_of index files stones meta ≡ block_of others more rest text
-same_block index others files more stones rest meta text p q r s =
-    ap (λ (a : Text). block_of a files stones meta) p ∙ ap (λ (b : List Text). block_of others b stones meta) q ∙ ap (λ (c : Text). block_of others more c meta) r ∙ ap (λ (d : Text). block_of others more rest d) s
 
 abbrev pub meta_by : Text → ℤ → ℤ → ℕ → ℕ → ℕ → Meta
 meta_by ulid first end samples series chunks = record { ulid = ulid; min_time = first; max_time = end; samples = samples; series = series; chunks = chunks }
@@ -185,19 +163,25 @@ pub same_meta : (ulid : Text) (a b c d : ℤ) (l m n o p q : ℕ) → a ≡ b �
 same_meta ulid a b c d l m n o p q e f g h i =
     ap (λ (x : ℤ). meta_by ulid x c l n p) e ∙ ap (λ (x : ℤ). meta_by ulid b x l n p) f ∙ ap (λ (x : ℕ). meta_by ulid b d x n p) g ∙ ap (λ (x : ℕ). meta_by ulid b d m x p) h ∙ ap (λ (x : ℕ). meta_by ulid b d m o x) i
 
--- ---- the rows that code has of the index, from what its calls gave
+-- ---- the entries of chunks, which code makes without their data
 
-pub chunks_from : (enc : Encoding) (rows : List CutRow) (those : List BlockRow) (chunks : List (List Chunk)) → chunks ≡ map (λ (r : CutRow). r.chunks) rows → rows ≡ map (in_chunks enc) those → chunks ≡ chunks_of_rows enc (samples_of_rows those)
-chunks_from enc rows those chunks e f = e ∙ ap (map (λ (r : CutRow). r.chunks)) f ∙ chunks_are enc those
+named_is : (cs : List Chunk) (rs : List ℕ) → named_spans (map span_of cs, rs) ≡ named (cs, rs)
+named_is [] rs = refl
+named_is (c ∷ cs) [] = refl
+named_is (c ∷ cs) (r ∷ rs) = ap (λ (ms : List ChunkMeta). meta_of (c, r) ∷ ms) (named_is cs rs)
 
-pub labels_from : (enc : Encoding) (rows : List CutRow) (those : List BlockRow) (labels : List Labels) → labels ≡ map (λ (r : CutRow). r.labels) rows → rows ≡ map (in_chunks enc) those → labels ≡ map (λ (b : BlockRow). b.labels) those
-labels_from enc rows those labels e f = e ∙ ap (map (λ (r : CutRow). r.labels)) f ∙ labels_are enc those
+each_named : (css : List (List Chunk)) (rss : List (List ℕ)) → map named_spans (zip (map (map span_of) css) rss) ≡ map named (zip css rss)
+each_named [] rss = refl
+each_named (cs ∷ css) [] = refl
+each_named (cs ∷ css) (rs ∷ rss) = ap (λ (ms : List ChunkMeta). ms ∷ map named_spans (zip (map (map span_of) css) rss)) (named_is cs rs) ∙ ap (λ (mss : List (List ChunkMeta)). named (cs, rs) ∷ mss) (each_named css rss)
 
-pub hidden_from : (enc : Encoding) (rows : List CutRow) (those : List BlockRow) (hidden : List (List Run)) → hidden ≡ map (λ (r : CutRow). r.hidden) rows → rows ≡ map (in_chunks enc) those → hidden ≡ map (λ (b : BlockRow). b.hidden) those
-hidden_from enc rows those hidden e f = e ∙ ap (map (λ (r : CutRow). r.hidden)) f ∙ hidden_are enc those
+pub metas_from : (enc : Encoding) (those : List BlockRow) (spans : List (List ChunkSpan)) (refs : List (List ℕ)) (metas : List (List ChunkMeta)) → spans ≡ spans_in enc those → refs ≡ references_in enc those → metas ≡ map named_spans (zip spans refs)
+    → metas ≡ metas_in enc (chunks_of_rows enc (samples_of_rows those))
+metas_from enc those spans refs metas e f g =
+    g ∙ ap (λ (ss : List (List ChunkSpan)). map named_spans (zip ss refs)) e ∙ ap (λ (rs : List (List ℕ)). map named_spans (zip (spans_in enc those) rs)) f
+    ∙ each_named (chunks_of_rows enc (samples_of_rows those)) (references_in enc those)
 
-pub metas_from : (enc : Encoding) (those : List BlockRow) (chunks : List (List Chunk)) (metas : List (List ChunkMeta)) → chunks ≡ chunks_of_rows enc (samples_of_rows those) → metas ≡ metas_in enc chunks → metas ≡ metas_in enc (chunks_of_rows enc (samples_of_rows those))
-metas_from enc those chunks metas e f = f ∙ ap (metas_in enc) e
+-- ---- what the other steps need
 
 pub too_large : (fault : WriteFault) → cut_fault fault ≡ cut.TooLarge → fault ≡ TooLarge
 too_large TooLarge e = refl
@@ -206,8 +190,3 @@ too_large Memory e = absurd cc
 -- a test that says no
 pub unless : {P : Type 0} (b : Bool) → b ≡ false → (P → b ≡ true) → P → ⊥
 unless b e f p = (let yes : b ≡ true = f p in cc)
-
--- rows that are there
-pub some_rows : (enc : Encoding) (those : List BlockRow) (rows : Vec CutRow Global) → rows.items ≡ map (in_chunks enc) those → (vec_len rows == 0) ≡ false → 0 < length those
-some_rows enc [] rows e off = (let none : vec_len rows ≡ 0 = omega (arith, ap length e) in let empty : (vec_len rows == 0) ≡ true = ap (λ (n : ℕ). n == 0) none in cc)
-some_rows enc (b ∷ those) rows e off = omega arith

@@ -1,6 +1,7 @@
 -- Two lists side by side, of which one is at its end.
-use Rattle.std.proofs.Common.{◌≡◌, ◌⊎◌, inl, inr, List, [], ◌∷◌, ◌++◌, length, map, refl, sym, ap, ◌∙◌, arith}
+use Rattle.std.proofs.Common.{◌≡◌, ◌⊎◌, inl, inr, List, [], ◌∷◌, ◌++◌, map, refl, sym, ap, subst, ◌∙◌, append_assoc, All}
 use Rattle.std.specs.List.{flat_map, zip}
+use Rattle.std.proofs.lemmas.List.Elements.{All-append, All-cons, All-nil}
 use Rattle.hw_bytes.proofs.Lists.{append_none}
 
 module _ {A B : Type 0} where
@@ -17,9 +18,13 @@ module _ {A B : Type 0} where
   pub flat_map_zipped : {C : Type 0} (f : A × B → List C) (done all : List C) (xs : List A) (ys : List B) → (xs ≡ []) ⊎ (ys ≡ []) → done ++ flat_map f (zip xs ys) ≡ all → done ≡ all
   flat_map_zipped {C} f done all xs ys one h = sym (append_none done) ∙ ap (λ (z : List (A × B)). done ++ flat_map f z) (sym (zip_none xs ys one)) ∙ h
 
-  -- one more on each side
-  pub zip_push : (xs : List A) (ys : List B) (x : A) (y : B) → length xs ≡ length ys → zip (xs ++ x ∷ []) (ys ++ y ∷ []) ≡ zip xs ys ++ (x, y) ∷ []
-  zip_push [] [] x y e = refl
-  zip_push [] (b ∷ ys) x y e = absurd (omega (arith, e))
-  zip_push (a ∷ xs) [] x y e = absurd (omega (arith, e))
-  zip_push (a ∷ xs) (b ∷ ys) x y e = ap (λ (z : List (A × B)). (a, b) ∷ z) (zip_push xs ys x y (omega (arith, e)))
+  -- what a loop has made of two lists, after one more of each
+  pub zipped_more : {C : Type 0} (f : A × B → C) (done next all : List C) (one : C) (xs more : List A) (ys rest : List B) (x : A) (y : B) → xs ≡ x ∷ more → ys ≡ y ∷ rest → one ≡ f (x, y) → next ≡ done ++ one ∷ [] → done ++ map f (zip xs ys) ≡ all
+      → next ++ map f (zip more rest) ≡ all
+  zipped_more {C} f done next all one xs more ys rest x y p q r push h =
+      ap (λ (cs : List C). cs ++ map f (zip more rest)) push ∙ append_assoc done (one ∷ []) (map f (zip more rest)) ∙ ap (λ (c : C). done ++ c ∷ map f (zip more rest)) r
+      ∙ sym (ap (λ (zs : List A). done ++ map f (zip zs ys)) p ∙ ap (λ (zs : List B). done ++ map f (zip (x ∷ more) zs)) q) ∙ h
+
+-- what holds of each, after one more
+pub all_more : {A : Type 0} (P : A → Type 0) (done next : List A) (one made : A) → All P done → P made → one ≡ made → next ≡ done ++ one ∷ [] → All P next
+all_more P done next one made h p e push = subst (All P) (sym push) (All-append P done (one ∷ []) h (All-cons P one [] (subst P (sym e) p) (All-nil P)))

@@ -14,19 +14,55 @@ use Rattle.index_text.specs.declared.row.IndexRow.{IndexRow}
 use Rattle.index_text.specs.Rows.{IsChain}
 use Rattle.block_files.specs.declared.encoding.Encoding.{Encoding}
 use Rattle.block_files.specs.declared.tombstones.Tombstone.{Tombstone}
+use Rattle.block_files.specs.declared.places.ChunkSpan.{ChunkSpan}
 use Rattle.block_files.specs.Files.{references, texts}
+use Rattle.block_files.specs.Places.{span_of}
 use Rattle.block_read.specs.declared.rows.BlockRow.{BlockRow}
-use Rattle.block_read.specs.Blocks.{IsRowOf, file_limit, hour_last, meta_of}
-use Rattle.hour_rows.specs.declared.rows.CutRow.{CutRow}
-use Rattle.hour_rows.specs.Chunked.{in_chunks}
+use Rattle.hour_rows.specs.declared.outlines.RowOutline.{RowOutline}
+use Rattle.block_cut.specs.declared.planning.PlannedSeries.{PlannedSeries}
+use Rattle.block_read.specs.Blocks.{IsRowOf, chunks_of_rows, file_limit, hour_last, meta_of, samples_of_rows}
 
--- These are rows of the hour with their samples in chunks of this encoding: at least one, in the order of label sets.
-pub record AreCutRows (e : Encoding) (k : ℤ) (rows : List CutRow) : Type 0 where
+-- rows of the hour: at least one, in the order of label sets
+pub record AreRowsOf (k : ℤ) (rows : List BlockRow) : Type 0 where
+  pub some : 0 < length rows
+  pub each : All (IsRowOf k) rows
+  pub ascending : IsChain (λ (a b : BlockRow). compare_labels a.labels b.labels ≡ Less) rows
+
+-- the entry of a chunk in the index, from what is known of it without its data
+abbrev pub meta_from : ChunkSpan × ℕ → ChunkMeta
+meta_from x = record { min_time = x.0.min_time; max_time = x.0.max_time; reference = x.1 }
+
+-- the entries of chunks, with these references
+abbrev pub named_spans : List ChunkSpan × List ℕ → List ChunkMeta
+named_spans x = map meta_from (zip x.0 x.1)
+
+-- the chunks of rows without their data
+abbrev pub spans_in : Encoding → List BlockRow → List (List ChunkSpan)
+spans_in e rows = map (map span_of) (chunks_of_rows e (samples_of_rows rows))
+
+-- the references of the chunks of rows
+abbrev pub references_in : Encoding → List BlockRow → List (List ℕ)
+references_in e rows = references e file_limit (texts (chunks_of_rows e (samples_of_rows rows)))
+
+-- the labels, the chunks without their data, and the hidden runs of rows
+pub record AreParts (e : Encoding) (rows : List BlockRow) (labels : List Labels) (spans : List (List ChunkSpan)) (hidden : List (List Run)) : Type 0 where
+  pub labels_are : labels ≡ map (λ (r : BlockRow). r.labels) rows
+  pub spans_are : spans ≡ spans_in e rows
+  pub hidden_are : hidden ≡ map (λ (r : BlockRow). r.hidden) rows
+
+-- outlines with the parts of rows
+abbrev pub HaveParts : Encoding → List BlockRow → List RowOutline → Type 0
+HaveParts e rows outlines = AreParts e rows (map (λ (o : RowOutline). o.labels) outlines) (map (λ (o : RowOutline). o.chunks) outlines) (map (λ (o : RowOutline). o.hidden) outlines)
+
+-- these are the outlines of rows of the hour
+pub record AreOutlines (e : Encoding) (k : ℤ) (outlines : List RowOutline) : Type 0 where
   pub those : List BlockRow
-  pub cut : rows ≡ map (in_chunks e) those
-  pub some : 0 < length those
-  pub each : All (IsRowOf k) those
-  pub ascending : IsChain (λ (a b : BlockRow). compare_labels a.labels b.labels ≡ Less) those
+  pub of_hour : AreRowsOf k those
+  pub parts : HaveParts e those outlines
+
+-- a series as it is planned, by the outline of its row
+abbrev pub planned : RowOutline → PlannedSeries
+planned outline = record { slot = outline.slot; chunks = length outline.chunks }
 
 -- the entries of chunks in the index, with these references
 abbrev pub named : List Chunk × List ℕ → List ChunkMeta
@@ -45,11 +81,11 @@ abbrev pub index_rows_of : List Labels → List (List ChunkMeta) → List IndexR
 index_rows_of labels metas = map (λ (x : Labels × List ChunkMeta). record { labels = x.0; chunks = x.1 }) (zip labels metas)
 
 -- the number of samples in chunks
-abbrev pub chunk_count : List Chunk → ℕ
-chunk_count chunks = sum_by (λ (c : Chunk). c.count) chunks
+abbrev pub chunk_count : List ChunkSpan → ℕ
+chunk_count chunks = sum_by (λ (c : ChunkSpan). c.count) chunks
 
 -- the number of samples in the chunks of rows
-abbrev pub sample_count : List (List Chunk) → ℕ
+abbrev pub sample_count : List (List ChunkSpan) → ℕ
 sample_count rows = sum_by chunk_count rows
 
 -- One of these samples is in the hour, which is no edge.

@@ -30,7 +30,7 @@ some_last full [] [] h = absurd (omega arith)
 some_last full [] (b ∷ body) h = refl
 some_last full (b ∷ front) body h = refl
 
-some_element : (enc : Encoding) (body : Text) → 0 < length (chunk_element enc body)
+pub some_element : (enc : Encoding) (body : Text) → 0 < length (chunk_element enc body)
 some_element enc body = omega (arith, length-append (uvarint (length body) ++ encoding_byte enc ∷ body) (sum_text (encoding_byte enc ∷ body)), length-append (uvarint (length body)) (encoding_byte enc ∷ body))
 
 with_last-put : (enc : Encoding) (full : List Text) (front body : Text) → with_last full (front ++ chunk_element enc body) ≡ full ++ (front ++ chunk_element enc body) ∷ []

@@ -6,3 +6,4 @@ pub mod FileLaws
 pub mod Placed
 pub mod RowLaws
 pub mod Worked
+pub mod LayoutLaws

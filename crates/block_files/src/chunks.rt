@@ -20,21 +20,38 @@ pub const CHUNK_FILE_LIMIT: u32 = 536_870_912;
 const HEAD: [u8; 8] = [0x85, 0xBD, 0x40, 0xDD, 1, 0, 0, 0];
 
 // how many files a block can have
-const MOST_FILES: usize = 0x1_0000_0000;
+pub(crate) const MOST_FILES: usize = 0x1_0000_0000;
+
+// Returns how many bytes a chunk takes in its file whose data have `len` bytes.
+#[tactic(auto, unfolding(hw_bytes::specs::Writing::uvarint, hw_bytes::specs::Writing::uvarint_in, hw_bytes::specs::Sums::sum_text))]
+pub(crate) fn element_len(encoding: Encoding, len: usize) -> usize
+    requires { len ≤ longest_chunk }
+    ensures size { (body : Text) → length body ≡ len → result ≡ length (chunk_element encoding body) }
+    ensures some { 0 < result }
+    ensures short { result ≤ longest_chunk + 7 }
+{
+    let spelled = if len < 128 { 1 } else { 2 };
+    spelled + 1 + len + 4
+}
 
 // Returns how many bytes a chunk with these data takes in its file.
-#[tactic(auto, unfolding(hw_bytes::specs::Writing::uvarint, hw_bytes::specs::Writing::uvarint_in, hw_bytes::specs::Sums::sum_text))]
 fn chunk_len(encoding: Encoding, data: &[u8]) -> usize
     requires { length «data».now ≤ longest_chunk }
     ensures { result ≡ length (chunk_element encoding «data».now) }
 {
-    let spelled = if data.len() < 128 { 1 } else { 2 };
-    spelled + 1 + data.len() + 4
+    element_len(encoding, data.len())
 }
 
-// Appends a chunk to its file.
+/// Appends the header of a chunk file.
+pub fn put_file_head(file: &mut Vec<u8>) -> Result<(), AllocError>
+    ensures { OnOk result (file.new.items ≡ file.old.items ++ file_head) }
+{
+    file.extend_from_slice(&HEAD)
+}
+
+/// Appends a chunk to its file: the length of the data as a uvarint, the encoding, the data, and the CRC-32C of the encoding and the data.
 #[tactic(auto, unfolding(hw_bytes::specs::Sums::sum_text))]
-fn put_chunk(encoding: Encoding, file: &mut Vec<u8>, data: &[u8]) -> Result<(), AllocError>
+pub fn put_chunk(encoding: Encoding, file: &mut Vec<u8>, data: &[u8]) -> Result<(), AllocError>
     ensures put { OnOk result (file.new.items ≡ file.old.items ++ chunk_element encoding «data».now) }
     ensures kept { OnErr result (length file.old.items ≤ length file.new.items) }
 {
@@ -63,7 +80,7 @@ fn begin_file(
         return Err(WriteFault::TooLarge);
     }
     let mut file = Vec::new(alloc);
-    file.extend_from_slice(&HEAD)?;
+    put_file_head(&mut file)?;
     let before = std::mem::replace(last, file);
     if !before.is_empty() {
         full.push(Items::from_vec(before))?;

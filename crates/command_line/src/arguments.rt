@@ -27,13 +27,19 @@ fn workers<'a>(alloc: Global) -> Arg<'a> {
         .default_value("4")
 }
 
-fn round_pages<'a>(alloc: Global) -> Arg<'a> {
+// How many pages a round has by default.
+const PAGES: &str = "256";
+
+// The same where little else is in memory: smaller rounds take less.
+const FEW_PAGES: &str = "32";
+
+fn round_pages<'a>(alloc: Global, pages: &'static str) -> Arg<'a> {
     Arg::new(alloc, "round-pages")
         .long("round-pages")
         .value_name("P")
         .help("How many pages are held decoded at a time, 1 to 65536; no result depends on it")
         .value_parser(value_parser!(u32).range(1..=65_536))
-        .default_value("256")
+        .default_value(pages)
 }
 
 // Returns an option that takes a number with a sign.
@@ -89,12 +95,29 @@ pub(crate) fn replaying<'a>(
     replaying_as_it_is(alloc, in_forms(alloc, command))
 }
 
+/// Adds the same options to a command that holds one hour of the log.
+pub(crate) fn replaying_an_hour<'a>(
+    alloc: Global,
+    command: Result<Command<'a>, AllocError>,
+) -> Result<Command<'a>, AllocError> {
+    replaying_in_rounds(alloc, in_forms(alloc, command), FEW_PAGES)
+}
+
 /// Adds the options of replay to a command.
 pub(crate) fn replaying_as_it_is<'a>(
     alloc: Global,
     command: Result<Command<'a>, AllocError>,
 ) -> Result<Command<'a>, AllocError> {
-    let command = command?.arg(workers(alloc))?.arg(round_pages(alloc));
+    replaying_in_rounds(alloc, command, PAGES)
+}
+
+// Adds the options of replay to a command, with this default of `--round-pages`.
+fn replaying_in_rounds<'a>(
+    alloc: Global,
+    command: Result<Command<'a>, AllocError>,
+    pages: &'static str,
+) -> Result<Command<'a>, AllocError> {
+    let command = command?.arg(workers(alloc))?.arg(round_pages(alloc, pages));
     with_min_valid(alloc, command, min_valid(alloc))
 }
 

@@ -82,7 +82,7 @@ fn cut<'a>(alloc: Global) -> Result<Command<'a>, AllocError> {
     let about = "Writes one full hour of the log as a block";
     let command = on_log(alloc, "cut", about, texts::CUT);
     let command = also(also(command, hour(alloc)), ulid(alloc)?);
-    replaying(alloc, also(also(command, out(alloc)), xor(alloc)))
+    replaying_an_hour(alloc, also(also(command, out(alloc)), xor(alloc)))
 }
 
 fn blocks<'a>(alloc: Global) -> Result<Command<'a>, AllocError> {

@@ -8,14 +8,14 @@ use store::{StoreFault, write_whole};
 
 // A writer that takes at most so many bytes a call, and of all calls at most so many bytes.
 #[derive(Drop)]
-struct Few {
-    taken: Vec<u8>,
+pub(crate) struct Few {
+    pub(crate) taken: Vec<u8>,
     most: usize,
     room: usize,
 }
 
 impl Few {
-    fn new(alloc: Global, most: usize, room: usize) -> Few {
+    pub(crate) fn new(alloc: Global, most: usize, room: usize) -> Few {
         Few {
             taken: Vec::new(alloc),
             most,

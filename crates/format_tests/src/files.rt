@@ -4,9 +4,13 @@ ghost use Rattle.std.specs.Prelude.{◌↔◌, ◌≤◌, IsTrue, length};
 ghost use Rattle.std.specs.List.{All};
 ghost use Rattle.head_column.specs.declared.chunk.Chunk.{Chunk as ChunkOfRow};
 ghost use Rattle.block_files.specs.Files.{longest_chunk};
+ghost use Rattle.block_files.specs.declared.places.ChunkSpan.{ChunkSpan as SpanOfRow};
 
 use crate::cases::{Case, check, shown};
-use block_files::{ChunkFiles, Encoding, chunk_at, write_chunks};
+use block_files::{
+    ChunkFiles, ChunkSpan, Encoding, FileSpan, PlacedChunks, chunk_at, place_spans, put_chunk,
+    put_file_head, spans_of, write_chunks,
+};
 use head_column::{Chunk, Sample, decode_chunk};
 use hw_bytes::{Items, WriteFault, crc32c};
 use std::alloc::{AllocError, Global};
@@ -99,10 +103,56 @@ fn write_each(alloc: Global, limit: u32, rows: &[Items<Chunk>]) -> Result<Writte
     Ok((files.into_files()?, references))
 }
 
-// Rows of chunks, and the most bytes of a file: written by one call, and row by row.
+// Whether the chunks that these stand for are no longer than those of 120 samples can be.
+fn are_spans_short(row: &[ChunkSpan]) -> bool
+    ensures { IsTrue result ↔ All (λ (s : SpanOfRow). s.len ≤ longest_chunk) row.now }
+{
+    row.iter().all(|span| span.len <= 2180)
+}
+
+fn are_all_short(rows: &[Items<ChunkSpan>]) -> bool
+    ensures { IsTrue result ↔ All (λ row. All (λ (s : SpanOfRow). s.len ≤ longest_chunk) row) rows.now }
+{
+    rows.iter().all(|row| are_spans_short(row.as_slice()))
+}
+
+fn place(alloc: Global, limit: u32, rows: &[Items<ChunkSpan>]) -> Result<PlacedChunks, WriteFault> {
+    if !are_all_short(rows) {
+        return Err(WriteFault::TooLarge);
+    }
+    place_spans(alloc, Encoding::Raw, rows, limit)
+}
+
+// The file with these chunks of all chunks of the rows.
+fn file_of(alloc: Global, rows: &[Items<Chunk>], file: &FileSpan) -> Result<Items<u8>, WriteFault> {
+    let mut bytes = Vec::new(alloc);
+    put_file_head(&mut bytes)?;
+    let chunks = rows.iter().flat_map(|row| row.as_slice().iter());
+    for chunk in chunks.skip(file.first).take(file.count) {
+        put_chunk(Encoding::Raw, &mut bytes, chunk.text.as_slice())?;
+    }
+    Ok(Items::from_vec(bytes))
+}
+
+// Places the chunks by their lengths alone, and then puts each in its file.
+fn write_placed(alloc: Global, limit: u32, rows: &[Items<Chunk>]) -> Result<Written, WriteFault> {
+    let mut spans = Vec::new(alloc);
+    for row in rows {
+        spans.push(Items::from_vec(spans_of(alloc, row.as_slice())?))?;
+    }
+    let placed = place(alloc, limit, &spans)?;
+    let mut files = Vec::new(alloc);
+    for file in placed.files.as_slice() {
+        files.push(file_of(alloc, rows, file)?)?;
+    }
+    Ok((files, placed.references))
+}
+
+// Rows of chunks, and the most bytes of a file: written by one call, row by row, and placed first and then written.
 enum Writing {
     AtOnce(u32, &'static [Row]),
     RowByRow(u32, &'static [Row]),
+    Placed(u32, &'static [Row]),
 }
 
 fn write_all(alloc: Global, limit: u32, rows: &[Items<Chunk>]) -> Result<Written, WriteFault> {
@@ -116,6 +166,7 @@ fn write(alloc: Global, writing: &Writing) -> Result<Written, WriteFault> {
     match writing {
         Writing::AtOnce(limit, rows) => write_all(alloc, *limit, &rows_of(alloc, rows)?),
         Writing::RowByRow(limit, rows) => write_each(alloc, *limit, &rows_of(alloc, rows)?),
+        Writing::Placed(limit, rows) => write_placed(alloc, *limit, &rows_of(alloc, rows)?),
     }
 }
 
@@ -176,6 +227,64 @@ const ROW_BY_ROW: &[(Writing, &str)] = &[
 #[test]
 fn rows_of_chunks(rt: HostRuntime) {
     check(&rt, ROW_BY_ROW);
+}
+
+const PLACED: &[(Writing, &str)] = &[
+    (
+        Writing::Placed(4096, &[(0, 1), (1, 4)]),
+        "3632 1216 [8][1216, 2424, 4294967304]",
+    ),
+    (
+        Writing::Placed(3632, &[(0, 4)]),
+        "3632 1216 [8, 1216, 2424, 4294967304]",
+    ),
+    (
+        Writing::Placed(3631, &[(0, 3), (3, 3), (3, 4)]),
+        "2424 2424 [8, 1216, 4294967304][][4294968512]",
+    ),
+    (
+        Writing::Placed(0, &[(0, 3)]),
+        "1216 1216 1216 [8, 4294967304, 8589934600]",
+    ),
+    (Writing::Placed(4096, &[]), ""),
+    (Writing::Placed(4096, &[(0, 0), (0, 0)]), "[][]"),
+];
+
+#[test]
+fn placed_before_they_are_written(rt: HostRuntime) {
+    check(&rt, PLACED);
+}
+
+fn are_same(placed: &[Items<u8>], files: &[Items<u8>]) -> bool {
+    let mut pairs = placed.iter().zip(files);
+    placed.len() == files.len() && pairs.all(|(one, other)| one.as_slice() == other.as_slice())
+}
+
+// Rows of chunks, and the most bytes of a file: whether the files have the same bytes where the chunks are placed first.
+struct Same(u32, &'static [Row]);
+
+impl Case for Same {
+    fn text(&self, alloc: Global) -> Result<String, AllocError> {
+        let rows = rows_of(alloc, self.1)?;
+        match (
+            write_placed(alloc, self.0, &rows),
+            write_all(alloc, self.0, &rows),
+        ) {
+            (Ok((placed, _)), Ok((files, _))) => shown(alloc, are_same(&placed, &files)),
+            _ => Err(AllocError),
+        }
+    }
+}
+
+const SAME: &[(Same, &str)] = &[
+    (Same(4096, &[(0, 1), (1, 4), (4, 11)]), "true"),
+    (Same(3631, &[(0, 3), (3, 3), (3, 4)]), "true"),
+    (Same(0, &[(7, 9)]), "true"),
+];
+
+#[test]
+fn placed_chunks_are_the_same_bytes(rt: HostRuntime) {
+    check(&rt, SAME);
 }
 
 // How many samples a chunk has, the first and the last of them, and the checksum of its data.

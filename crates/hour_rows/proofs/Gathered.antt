@@ -1,7 +1,8 @@
 -- What threads give, in order.
-use Rattle.std.proofs.Common.{◌≡◌, List, [], ◌∷◌, map, refl, sym, ap, subst, ◌∙◌, All}
+use Rattle.std.proofs.Common.{◌≡◌, List, Option, None, Some, [], ◌∷◌, map, refl, sym, ap, subst, ◌∙◌, All}
 use Rattle.std.specs.Prelude.{Result, Ok, Err, IfOk, MatchResult}
-use Rattle.std.specs.List.{AllZip}
+use Rattle.std.specs.List.{AllZip, filter_map, flat_map}
+use Rattle.std.specs.Option.{option_to_list}
 use Rattle.std.proofs.lemmas.List.Elements.{All-cons, All-nil}
 
 -- where all went well
@@ -12,9 +13,11 @@ matched (Err e) P S Q h f = tt
 pub at_ok : {X E : Type 0} {r : Result X E} {x : X} → r ≡ Ok x → (S : X → Type 0) → IfOk r S → S x
 at_ok e S h = subst (λ q. IfOk q S) e h
 
-pub if_ok : {X E : Type 0} (r : Result X E) {Q : Type 0} → Q → IfOk r (λ _. Q)
-if_ok (Ok x) q = q
-if_ok (Err e) q = tt
+-- what there is
+pub flattened : {X : Type 0} (xs : List (Option X)) → flat_map option_to_list xs ≡ filter_map (λ x. x) xs
+flattened [] = refl
+flattened (None ∷ xs) = flattened xs
+flattened {X} (Some x ∷ xs) = ap (λ (ys : List X). x ∷ ys) (flattened xs)
 
 module _ {A B E : Type 0} (f : A → B) (Q : A → Type 0) where
   abbrev Answers : A → Result B E → Type 0

@@ -4,3 +4,4 @@ pub mod Orders
 pub mod Picked
 mod Worked
 pub mod SeenRows
+pub mod Outlining

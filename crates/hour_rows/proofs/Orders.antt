@@ -1,6 +1,6 @@
 -- A sorted list of things with distinct keys is the ascending list of them.
-use Rattle.std.proofs.Common.{◌≡◌, ℕ, zero, suc, ◌+◌, ◌≤◌, ◌⊎◌, inl, inr, Bool, true, false, cond, List, [], ◌∷◌, get_or, refl, sym, ap, subst, ◌∙◌, arith}
-use Rattle.std.specs.Prelude.{Option, None, Some, Contains}
+use Rattle.std.proofs.Common.{◌≡◌, ℕ, zero, suc, ◌+◌, ◌≤◌, ◌⊎◌, inl, inr, Bool, true, false, cond, List, [], ◌∷◌, get_or, map, refl, sym, ap, subst, ◌∙◌, arith}
+use Rattle.std.specs.Prelude.{Option, None, Some, Contains, if◌then◌else◌}
 use Rattle.std.specs.List.{filter_map, cons_option, sum_by}
 use Rattle.std.specs.List.Sorted.{IsPermutation, IsSorted}
 use Rattle.std.specs.Cmp.{IsTotalOrder}
@@ -217,3 +217,37 @@ module _ {X Y K : Type 0} (key : X → K) (label : Y → K) (R : K → K → Ord
 
       from : (z : Y) → Has ys_by z (filter_map f (ascending xs_by xs)) → Has ys_by z ys
       from z h = back z (has_kept z (ascending xs_by xs) h)
+
+-- ---- things that stand for others
+
+module _ {X Y : Type 0} (g : X → Y) (R : Y → Y → Ordering) where
+  abbrev by_image : X → X → Ordering
+  by_image a b = R (g a) (g b)
+
+  with_one_map : (x : X) (ys : List X) → with_one R (g x) (map g ys) ≡ map g (with_one by_image x ys)
+  with_one_map x [] = refl
+  with_one_map x (y ∷ ys) = by (by_image x y) (with_one_map x ys) where
+    by : (o : Ordering) → with_one R (g x) (map g ys) ≡ map g (with_one by_image x ys)
+        → (if is_lt o then g x ∷ g y ∷ map g ys else (if is_eq o then g y ∷ map g ys else g y ∷ with_one R (g x) (map g ys)))
+        ≡ map g (if is_lt o then x ∷ y ∷ ys else (if is_eq o then y ∷ ys else y ∷ with_one by_image x ys))
+    by Less same = refl
+    by Equal same = refl
+    by Greater same = ap (λ (zs : List Y). g y ∷ zs) same
+
+  -- the ascending list of what they stand for
+  pub ascending_map : (xs : List X) → ascending R (map g xs) ≡ map g (ascending by_image xs)
+  ascending_map [] = refl
+  ascending_map (x ∷ xs) = ap (with_one R (g x)) (ascending_map xs) ∙ with_one_map x (ascending by_image xs)
+
+module _ {X Y K : Type 0} (g : X → Y) (key : Y → K) (R : K → K → Ordering) (total : IsTotalOrder R) where
+  abbrev image_key : X → K
+  image_key x = key (g x)
+
+  has_map : (z : X) (xs : List X) → Has (by_key image_key R total) z xs → Has (by_key key R total) (g z) (map g xs)
+  has_map z [] h = absurd h
+  has_map z (x ∷ xs) (inl e) = inl (ap g e)
+  has_map z (x ∷ xs) (inr m) = inr (has_map z xs m)
+
+  pub apart_map : (xs : List X) → AreApart key R total (map g xs) → AreApart image_key R total xs
+  apart_map [] h = tt
+  apart_map (x ∷ xs) h = (λ y m e. h.0 (g y) (has_map y xs m) e, apart_map xs h.1)

@@ -1,11 +1,9 @@
--- The rows of an hour: how they are come by, slot by slot, and what each of them is.
+-- The rows of an hour: in which order they are, and what each of them is.
 use Rattle.std.proofs.Common.{◌≡◌, ℕ, zero, suc, ◌+◌, ◌<◌, inl, inr, Bool, true, false, List, [], ◌∷◌, length, get_or, map, refl, sym, ap, subst, ◌∙◌, arith, All}
 use Rattle.std.specs.Prelude.{ℤ, Option, None, Some, filter, cond, not, ◌==◌, ◌||◌}
 use Rattle.std.specs.List.{AllByRecursion, cons_option, filter_map, list_any, range_with_len, zip}
-use Rattle.std.specs.List.Sorted.{IsPermutation, IsSorted}
 use Rattle.std.specs.declared.cmp.Ordering.{Ordering}
 use Rattle.std.specs.declared.cmp.Ordering.TheVariants.{Less}
-use Rattle.std.proofs.lemmas.Bool.{ne_eqb}
 use Rattle.std.proofs.lemmas.Int.{ints}
 use Rattle.std.proofs.lemmas.List.Elements.{All-filter, All-from_recursion, filter_passes, recursion_from_All}
 use Rattle.std.proofs.lemmas.List.{get_or_default}
@@ -13,7 +11,6 @@ use Rattle.std.proofs.lemmas.Option.{unwrap_or-slice_get}
 use Rattle.wal_record.specs.Labels.{IsLabelSet, Labels, compare_labels, same_labels}
 use Rattle.wal_record.proofs.Comparing.{labels_equal, labels_total}
 use Rattle.wal_record.proofs.Equality.{labels_same}
-use Rattle.head_column.specs.declared.items.Run.{Run}
 use Rattle.head_column.specs.Samples.{Sample}
 use Rattle.head_column.specs.Chunks.{IsFit}
 use Rattle.head_column.specs.Histories.{History, no_history}
@@ -25,16 +22,13 @@ use Rattle.head_core.specs.Heads.{history_at}
 use Rattle.index_text.specs.Rows.{IsChain}
 use Rattle.index_text.specs.Sets.{ascending}
 use Rattle.index_text.proofs.Ranks.{Has, IsAscending, ascending-is, ascending-of}
-use Rattle.block_files.specs.declared.encoding.Encoding.{Encoding}
-use Rattle.block_files.specs.declared.encoding.Encoding.TheVariants.{Raw}
 use Rattle.block_read.specs.declared.rows.BlockRow.{BlockRow}
-use Rattle.block_read.specs.Blocks.{IsRowOf, chunks_in}
-use Rattle.hour_rows.specs.declared.rows.CutRow.{CutRow}
-use Rattle.hour_rows.specs.Clipping.{samples_in, runs_in}
-use Rattle.hour_rows.specs.Chunked.{IsHistory, cut_row, if_chunks, in_chunks, row_at}
+use Rattle.block_read.specs.Blocks.{IsRowOf}
+use Rattle.hour_rows.specs.Clipping.{samples_in}
+use Rattle.hour_rows.specs.Outlined.{IsHistory}
 use Rattle.hour_rows.specs.Rows.{has_samples, row_of, rows_of}
 use Rattle.hour_rows.proofs.Clips.{AreApart-runs_in, IsWithin-runs_in}
-use Rattle.hour_rows.proofs.Orders.{AreApart, Differs, by_key, by_key_order, kept_ascends, sorted_is}
+use Rattle.hour_rows.proofs.Orders.{AreApart, Differs, by_key, by_key_order, kept_ascends}
 
 -- ---- samples of an hour rise
 
@@ -63,41 +57,11 @@ module _ (p : Sample → Bool) where
 
 -- ---- the series of a head, each with its history
 
-abbrev Series : Type 0
+abbrev pub Series : Type 0
 Series = Labels × History
 
-abbrev series_cmp : Series → Series → Ordering
+abbrev pub series_cmp : Series → Series → Ordering
 series_cmp = by_key (λ (s : Series). s.0) compare_labels labels_total
-
--- by slot, or side by side
-by_slot : {C : Type 0} (f : ℕ → C) (g : Series → C) (at : ℕ) (ls : List Labels) (hs : List History) → length hs ≡ length ls → ((i : ℕ) → i < length ls → f (at + i) ≡ g (get_or ls i [], get_or hs i no_history))
-    → map f (range_with_len at (length ls)) ≡ map g (zip ls hs)
-by_slot f g at [] [] e h = refl
-by_slot f g at [] (y ∷ hs) e h = refl
-by_slot f g at (l ∷ ls) [] e h = absurd (omega arith)
-by_slot {C} f g at (l ∷ ls) (y ∷ hs) e h =
-    let here : at + 0 ≡ at = omega arith in
-    let first : f at ≡ g (l, y) = ap f (sym here) ∙ h 0 (omega arith) in
-    let rest : map f (range_with_len (at + 1) (length ls)) ≡ map g (zip ls hs) = by_slot f g (at + 1) ls hs (omega arith) (λ i lt.
-    let there : (at + 1) + i ≡ at + suc i = omega arith in ap f there ∙ h (suc i) (omega arith)) in
-    ap (λ (z : C). z ∷ map f (range_with_len (at + 1) (length ls))) first ∙ ap (λ (zs : List C). g (l, y) ∷ zs) rest
-
-filter_map_map : {A B : Type 0} (g : A → Option B) (xs : List A) → filter_map (λ (o : Option B). o) (map g xs) ≡ filter_map g xs
-filter_map_map g [] = refl
-filter_map_map {A} {B} g (x ∷ xs) = ap (λ (bs : List B). cons_option (g x) bs) (filter_map_map g xs)
-
-abbrev kept_of : Encoding → ℤ → Series → Option CutRow
-kept_of enc k s = if_chunks (cut_row enc k s)
-
--- the rows that are kept, slot by slot
-kept_by_slot : (enc : Encoding) (k : ℤ) (c : Content) → length c.histories ≡ length c.table.series
-    → filter_map (λ (o : Option CutRow). o) (map (row_at enc k c) (range_with_len 0 (length c.table.series))) ≡ filter_map (kept_of enc k) (zip c.table.series c.histories)
-kept_by_slot enc k c each =
-    let one : map (row_at enc k c) (range_with_len 0 (length c.table.series)) ≡ map (kept_of enc k) (zip c.table.series c.histories) =
-    by_slot (row_at enc k c) (kept_of enc k) 0 c.table.series c.histories each (λ i lt.
-    let here : 0 + i ≡ i = omega arith in
-    ap (row_at enc k c) here ∙ ap (λ (h : History). kept_of enc k (get_or c.table.series i [], h)) (unwrap_or-slice_get c.histories i no_history)) in
-    ap (filter_map (λ (o : Option CutRow). o)) one ∙ filter_map_map (kept_of enc k) (zip c.table.series c.histories)
 
 -- ---- the series are distinct
 
@@ -119,70 +83,45 @@ differs l h (m ∷ ls) (g ∷ hs) off y (inl i) e =
     cc
 differs l h (m ∷ ls) (g ∷ hs) off y (inr n) e = differs l h ls hs (or_second (same_labels l m) (list_any (same_labels l) ls) off) y n e
 
-apart : (ls : List Labels) (hs : List History) → AreDistinct same_labels ls → AreApart (λ (s : Series). s.0) compare_labels labels_total (zip ls hs)
+pub apart : (ls : List Labels) (hs : List History) → AreDistinct same_labels ls → AreApart (λ (s : Series). s.0) compare_labels labels_total (zip ls hs)
 apart [] hs h = tt
 apart (l ∷ ls) [] h = tt
 apart (l ∷ ls) (y ∷ hs) h = (differs l y ls hs h.0, apart ls hs h.1)
 
--- ---- the rows of an hour
+-- ---- their order
 
-not_zero : (n : ℕ) → 0 < n → (n == 0) ≡ false
-not_zero n h = ne_eqb n 0 (λ e. omega arith)
+-- the row of a series, if it has samples
+abbrev kept_row : ℤ → Series → Option BlockRow
+kept_row k s = cond (has_samples (row_of k s)) (Some (row_of k s)) None
 
-one_by : (enc : Encoding) (row : BlockRow) (more : List BlockRow) (a b : Bool) → a ≡ false → b ≡ false → map (in_chunks enc) (cond (not a) (row ∷ more) more) ≡ cons_option (cond b None (Some (in_chunks enc row))) (map (in_chunks enc) more)
-one_by enc row more true b e f = absurd cc
-one_by enc row more false true e f = absurd cc
-one_by enc row more false false e f = refl
+kept_rows : (k : ℤ) (ss : List Series) → filter has_samples (map (row_of k) ss) ≡ filter_map (kept_row k) ss
+kept_rows k [] = refl
+kept_rows k (s ∷ ss) = by (has_samples (row_of k s)) (kept_rows k ss) where
+  by : (b : Bool) → filter has_samples (map (row_of k) ss) ≡ filter_map (kept_row k) ss
+      → cond b (row_of k s ∷ filter has_samples (map (row_of k) ss)) (filter has_samples (map (row_of k) ss)) ≡ cons_option (cond b (Some (row_of k s)) None) (filter_map (kept_row k) ss)
+  by true same = ap (λ (rows : List BlockRow). row_of k s ∷ rows) same
+  by false same = same
 
-one_row : (enc : Encoding) (l : Labels) (xs : List Sample) (hidden : List Run) (more : List BlockRow)
-    → map (in_chunks enc) (cond (has_samples (record { labels = l; samples = xs; hidden = hidden })) (record { labels = l; samples = xs; hidden = hidden } ∷ more) more)
-    ≡ cons_option (if_chunks (in_chunks enc (record { labels = l; samples = xs; hidden = hidden }))) (map (in_chunks enc) more)
-one_row enc l [] hidden more = refl
-one_row enc l (x ∷ xs) hidden more =
-    one_by enc (record { labels = l; samples = x ∷ xs; hidden = hidden }) more (length (x ∷ xs) == 0) (length (chunks_in enc (x ∷ xs)) == 0) (not_zero (length (x ∷ xs)) (omega arith)) (not_zero (length (chunks_in enc (x ∷ xs))) (omega arith))
+kept_label : (k : ℤ) (s : Series) (row : BlockRow) → kept_row k s ≡ Some row → row.labels ≡ s.0
+kept_label k s row e = by (has_samples (row_of k s)) e where
+  by : (b : Bool) → cond b (Some (row_of k s)) None ≡ Some row → row.labels ≡ s.0
+  by true f = let is : row_of k s ≡ row = cc in ap (λ (q : BlockRow). q.labels) (sym is)
+  by false f = absurd cc
 
-chunked : (enc : Encoding) (k : ℤ) (ss : List Series) → map (in_chunks enc) (filter has_samples (map (row_of k) ss)) ≡ filter_map (kept_of enc k) ss
-chunked enc k [] = refl
-chunked enc k (s ∷ ss) =
-    one_row enc s.0 (samples_in k s.1.samples) (runs_in k s.1.hidden) (filter has_samples (map (row_of k) ss)) ∙ ap (λ (rs : List CutRow). cons_option (kept_of enc k s) rs) (chunked enc k ss)
-
-kept_label : (enc : Encoding) (k : ℤ) (s : Series) (r : CutRow) → kept_of enc k s ≡ Some r → r.labels ≡ s.0
-kept_label enc k s r e = by (length (cut_row enc k s).chunks == 0) e where
-  by : (b : Bool) → cond b None (Some (cut_row enc k s)) ≡ Some r → r.labels ≡ s.0
-  by true f = absurd cc
-  by false f = let is : cut_row enc k s ≡ r = cc in ap (λ (q : CutRow). q.labels) (sym is)
-
--- The rows that the code keeps and sorts are the rows of the hour.
-sorted_rows : (enc : Encoding) (k : ℤ) (c : Content) (rows : List CutRow) → AreDistinct same_labels c.table.series → IsPermutation (filter_map (kept_of enc k) (zip c.table.series c.histories)) rows
-    → IsSorted (λ (a b : CutRow). compare_labels a.labels b.labels) rows → rows ≡ map (in_chunks enc) (rows_of k c)
-unfolding rows_of
-sorted_rows enc k c rows distinct moved sorted =
-    sorted_is (λ (s : Series). s.0) (λ (r : CutRow). r.labels) compare_labels labels_total (kept_of enc k) (kept_label enc k) (zip c.table.series c.histories) rows
-    (apart c.table.series c.histories distinct) moved sorted
-    ∙ sym (chunked enc k (ascending series_cmp (zip c.table.series c.histories)))
-
--- so they are, if the code looked for a row at each slot
-pub picked_rows : (enc : Encoding) (k : ℤ) (c : Content) (n : ℕ) (each : List (Option CutRow)) (kept rows : List CutRow) → n ≡ length c.table.series → length c.histories ≡ length c.table.series → AreDistinct same_labels c.table.series
-    → each ≡ map (row_at enc k c) (range_with_len 0 n) → kept ≡ filter_map (λ (o : Option CutRow). o) each → IsPermutation kept rows → IsSorted (λ (a b : CutRow). compare_labels a.labels b.labels) rows → rows ≡ map (in_chunks enc) (rows_of k c)
-picked_rows enc k c n each kept rows count one_each distinct made those moved sorted =
-    let all : kept ≡ filter_map (kept_of enc k) (zip c.table.series c.histories) =
-    those ∙ ap (filter_map (λ (o : Option CutRow). o)) (made ∙ ap (λ (m : ℕ). map (row_at enc k c) (range_with_len 0 m)) count) ∙ kept_by_slot enc k c one_each in
-    sorted_rows enc k c rows distinct (subst (λ (rs : List CutRow). IsPermutation rs rows) all moved) sorted
-
--- ---- what each of them is
-
-chain_of : (bs : List BlockRow) → IsAscending (λ (a b : CutRow). compare_labels a.labels b.labels) (map (in_chunks Raw) bs) → IsChain (λ (a b : BlockRow). compare_labels a.labels b.labels ≡ Less) bs
+chain_of : (rows : List BlockRow) → IsAscending (λ (a b : BlockRow). compare_labels a.labels b.labels) rows → IsChain (λ (a b : BlockRow). compare_labels a.labels b.labels ≡ Less) rows
 chain_of [] h = tt
-chain_of (b ∷ []) h = tt
-chain_of (b ∷ d ∷ more) h = (h.0.0, chain_of (d ∷ more) h.1)
+chain_of (a ∷ []) h = tt
+chain_of (a ∷ b ∷ more) h = (h.0.0, chain_of (b ∷ more) h.1)
 
 pub rows_ascend : (k : ℤ) (c : Content) → IsChain (λ (a b : BlockRow). compare_labels a.labels b.labels ≡ Less) (rows_of k c)
 unfolding rows_of
 rows_ascend k c =
     let zs = zip c.table.series c.histories in
     let up = ascending-is series_cmp (by_key_order (λ (s : Series). s.0) compare_labels labels_total) zs in
-    let kept = kept_ascends (λ (s : Series). s.0) (λ (r : CutRow). r.labels) compare_labels labels_total (kept_of Raw k) (kept_label Raw k) (ascending series_cmp zs) up in
-    chain_of (rows_of k c) (subst (IsAscending (λ (a b : CutRow). compare_labels a.labels b.labels)) (sym (chunked Raw k (ascending series_cmp zs))) kept)
+    let kept = kept_ascends (λ (s : Series). s.0) (λ (row : BlockRow). row.labels) compare_labels labels_total (kept_row k) (kept_label k) (ascending series_cmp zs) up in
+    chain_of (rows_of k c) (subst (IsAscending (λ (a b : BlockRow). compare_labels a.labels b.labels)) (sym (kept_rows k (ascending series_cmp zs))) kept)
+
+-- ---- what each of them is
 
 abbrev IsHeld : Series → Type 0
 IsHeld s = IsLabelSet s.0 × IsHistory s.1

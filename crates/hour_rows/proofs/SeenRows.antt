@@ -3,9 +3,7 @@ use Rattle.std.proofs.Common.{◌≡◌, Bool, true, false, List, [], ◌∷◌,
 use Rattle.std.specs.Prelude.{ℤ, IsTrue, filter, if◌then◌else◌}
 use Rattle.std.specs.List.{zip}
 use Rattle.std.proofs.lemmas.Int.{ints}
-use Rattle.std.specs.Ordering.{is_eq, is_lt}
 use Rattle.std.specs.declared.cmp.Ordering.{Ordering}
-use Rattle.std.specs.declared.cmp.Ordering.TheVariants.{Less, Equal, Greater}
 use Rattle.wal_record.specs.Labels.{Labels, compare_labels}
 use Rattle.head_column.specs.declared.items.Run.{Run}
 use Rattle.head_column.specs.Samples.{Sample}
@@ -15,11 +13,12 @@ use Rattle.head_column.specs.Kept.{samples_at, seen_at}
 use Rattle.head_column.specs.Runs.{spans}
 use Rattle.head_core.specs.Content.{Content}
 use Rattle.head_core.specs.Kept.{content_at}
-use Rattle.index_text.specs.Sets.{ascending, with_one}
+use Rattle.index_text.specs.Sets.{ascending}
 use Rattle.block_read.specs.Blocks.{hour_last}
 use Rattle.block_read.specs.declared.rows.BlockRow.{BlockRow}
 use Rattle.hour_rows.specs.Clipping.{runs_in, samples_in}
 use Rattle.hour_rows.specs.Rows.{has_samples, row_of, rows_of}
+use Rattle.hour_rows.proofs.Orders.{ascending_map}
 
 -- the times between the first and the last of an hour
 pub in_bounds : (k t a b : ℤ) → a ≡ hour_start k → b ≡ hour_last k → IsTrue (is_in_hour k t) → IsTrue (spans (record { min_time = a; max_time = b }) t)
@@ -44,20 +43,6 @@ module _ (k : ℤ) (times : Run) (covers : (t : ℤ) → IsTrue (is_in_hour k t)
   abbrev seen : Labels × History → Labels × History
   seen series = (series.0, seen_at times series.1)
 
-  with_seen : (x : Labels × History) (ys : List (Labels × History)) → with_one by_labels (seen x) (map seen ys) ≡ map seen (with_one by_labels x ys)
-  with_seen x [] = refl
-  with_seen x (y ∷ ys) = by (by_labels x y) (with_seen x ys) where
-    by : (o : Ordering) → with_one by_labels (seen x) (map seen ys) ≡ map seen (with_one by_labels x ys)
-        → (if is_lt o then seen x ∷ seen y ∷ map seen ys else (if is_eq o then seen y ∷ map seen ys else seen y ∷ with_one by_labels (seen x) (map seen ys)))
-        ≡ map seen (if is_lt o then x ∷ y ∷ ys else (if is_eq o then y ∷ ys else y ∷ with_one by_labels x ys))
-    by Less same = refl
-    by Equal same = refl
-    by Greater same = ap (λ (zs : List (Labels × History)). seen y ∷ zs) same
-
-  ascending_seen : (xs : List (Labels × History)) → ascending by_labels (map seen xs) ≡ map seen (ascending by_labels xs)
-  ascending_seen [] = refl
-  ascending_seen (x ∷ xs) = ap (with_one by_labels (seen x)) (ascending_seen xs) ∙ with_seen x (ascending by_labels xs)
-
   zip_seen : (series : List Labels) (histories : List History) → zip series (map (seen_at times) histories) ≡ map seen (zip series histories)
   zip_seen [] [] = refl
   zip_seen [] (h ∷ hs) = refl
@@ -76,5 +61,5 @@ module _ (k : ℤ) (times : Run) (covers : (t : ℤ) → IsTrue (is_in_hour k t)
   unfolding rows_of
   same_rows c =
       ap (λ (ps : List (Labels × History)). filter has_samples (map (row_of k) (ascending by_labels ps))) (zip_seen c.table.series c.histories)
-      ∙ ap (λ (ps : List (Labels × History)). filter has_samples (map (row_of k) ps)) (ascending_seen (zip c.table.series c.histories))
+      ∙ ap (λ (ps : List (Labels × History)). filter has_samples (map (row_of k) ps)) (ascending_map seen by_labels (zip c.table.series c.histories))
       ∙ ap (filter has_samples) (rows_seen (ascending by_labels (zip c.table.series c.histories)))

@@ -1,3 +1,4 @@
 pub mod Clipping
 pub mod Rows
-pub mod Chunked
+pub mod Outlines
+pub mod Outlined

@@ -13,14 +13,17 @@ const REPLAY_BYTES: u64 = 29 << 20;
 const REPLAY_SERIES_BYTES: u64 = 330;
 
 // About how many bytes more a head takes for the items that wait for its workers, for a series, and for a sample, whose value mostly changes in
-// few bits; and a head and its block for a sample of the hour that is cut.
+// few bits.
 const WAITING_BYTES: u64 = 13 << 20;
 
 const SERIES_BYTES: u64 = 600;
 
 const SAMPLE_BYTES: u64 = 6;
 
-const CUT_SAMPLE_BYTES: u64 = 32;
+// About how many bytes an hour takes that is cut without series and samples, and for a series, with its part of the index.
+const CUT_BYTES: u64 = 18 << 20;
+
+const CUT_SERIES_BYTES: u64 = 2_500;
 
 // About how many bytes of memory five bytes of a file take while it is unpacked, with its text.
 const UNPACKED_FIFTHS: u64 = 12;
@@ -77,15 +80,14 @@ pub(crate) fn memory_of(sums: &Sums, files: &[FileSurvey]) -> Option<Memory> {
         .saturating_mul(SERIES_BYTES)
         .saturating_add(WAITING_BYTES)
         .saturating_add(replay);
+    let cut = series
+        .saturating_mul(CUT_SERIES_BYTES)
+        .saturating_add(CUT_BYTES);
     let in_hour = samples / hours(sums.times);
     Some(Memory {
         replay: mebibytes(replay),
         series: mebibytes(samples.saturating_mul(SAMPLE_BYTES).saturating_add(head)),
-        cut: mebibytes(
-            in_hour
-                .saturating_mul(CUT_SAMPLE_BYTES)
-                .saturating_add(head),
-        ),
+        cut: mebibytes(in_hour.saturating_mul(SAMPLE_BYTES).saturating_add(cut)),
         unpacking: mebibytes(largest(files).saturating_mul(UNPACKED_FIFTHS) / 5),
     })
 }

@@ -7,7 +7,7 @@ ghost use Rattle.new_files.specs.Orders.{Follows};
 
 use crate::fault::{WriteFault, written};
 use std::alloc::Global;
-use store::{Store, StoreFault};
+use store::{Pieces, Store, StoreFault};
 
 // Creates a file, writes these bytes and syncs it.
 pub(crate) fn write_file<S: Store>(
@@ -33,4 +33,32 @@ pub fn write_synced<S: Store>(
     ensures told { IfErr result (λ fault. NamesPath path.now fault) }
 {
     written(alloc, path, write_file(store, path, bytes))
+}
+
+// Creates a file, writes bytes as they come and syncs it.
+fn write_file_of<S: Store, P: Pieces>(
+    alloc: Global,
+    store: &mut S,
+    path: &str,
+    pieces: &mut P,
+) -> Result<(), StoreFault>
+    ensures { Follows S.did store.old (file_calls path.now (P.text pieces.old)) result store.new }
+{
+    let mut writer = store.create_new(path)?;
+    store.write_pieces(alloc, &mut writer, pieces)?;
+    store.sync_file(&mut writer)
+}
+
+/// Creates a file, writes bytes as they come and syncs it, as `write_synced` does with bytes that are all there. Where making them fails, some may
+/// be written.
+pub fn write_pieces_synced<S: Store, P: Pieces>(
+    alloc: Global,
+    store: &mut S,
+    path: &str,
+    pieces: &mut P,
+) -> Result<(), WriteFault>
+    ensures calls { Follows S.did store.old (file_calls path.now (P.text pieces.old)) result store.new }
+    ensures told { IfErr result (λ fault. NamesPath path.now fault) }
+{
+    written(alloc, path, write_file_of(alloc, store, path, pieces))
 }

@@ -12,7 +12,7 @@ mod target;
 
 pub use abandoned::clear_abandoned;
 pub use fault::{WriteFault, written};
-pub use file::write_synced;
+pub use file::{write_pieces_synced, write_synced};
 pub use folder::{NewFile, begin_folder, finish_folder, write_files, write_new_folder};
 pub use laws::renamed_too_early;
 pub use names::{eight_digits, six_digits};

@@ -22,7 +22,7 @@ pub(crate) fn told_of(
     named: &NamedBlock,
     is_written: bool,
 ) -> Result<HourBlock, AllocError> {
-    let stats = stats_of(alloc, &named.block)?;
+    let stats = stats_of(alloc, named.block.meta.as_slice())?;
     Ok(HourBlock {
         ulid: named.ulid,
         hour: named.hour,

@@ -1,3 +1,4 @@
+pub mod Moving
 mod Showing
 pub mod Reading
 pub mod Zipped

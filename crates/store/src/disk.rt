@@ -7,6 +7,7 @@ ghost use Rattle.store.specs.Entries.{Gives};
 
 use crate::part::read_pages;
 use crate::part_store::PartStore;
+use crate::pieces::{Pieces, write_each};
 use crate::reason::Reason;
 use crate::several::{ReadFile, read_several};
 use crate::store::{PartRead, Store, StoreFault};
@@ -290,6 +291,15 @@ impl<R: Threads> Store for Disk<'_, R> {
 
     fn write(&mut self, writer: &mut File, bytes: &[u8]) -> Result<(), StoreFault> {
         write_whole(writer, bytes)
+    }
+
+    fn write_pieces<P: Pieces>(
+        &mut self,
+        alloc: Global,
+        writer: &mut File,
+        pieces: &mut P,
+    ) -> Result<(), StoreFault> {
+        write_each(alloc, writer, pieces)
     }
 
     fn sync_file(&mut self, writer: &mut File) -> Result<(), StoreFault> {

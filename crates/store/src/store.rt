@@ -8,6 +8,7 @@ ghost use Rattle.store.specs.Calls.{Call, Called, Create, CreateDir, Remove, Ren
 ghost use Rattle.store.specs.Found.{Bytes, Found, Names};
 ghost use Rattle.store.specs.declared.store.StoreFault.TheVariants.{OutOfMemory};
 
+use crate::pieces::{Pieces, gather};
 use crate::reason::Reason;
 use hash_seed::HashSeed;
 use std::alloc::{AllocError, AllocFailed, Global};
@@ -171,6 +172,20 @@ pub trait Store {
     fn write(&mut self, writer: &mut Self::Writer, bytes: &[u8]) -> Result<(), StoreFault>
         ensures call { (path : List ℕ) → is_of writer.old path → Called did self.old (Write path bytes.now) result self.new }
         ensures writer { (path : List ℕ) → is_of writer.old path → is_of writer.new path };
+
+    /// Writes bytes to the end of a new file as they come, as one call. If making them fails, some may be written.
+    fn write_pieces<P: Pieces>(
+        &mut self,
+        alloc: Global,
+        writer: &mut Self::Writer,
+        pieces: &mut P,
+    ) -> Result<(), StoreFault>
+        ensures call { (path : List ℕ) → is_of writer.old path → Called did self.old (Write path (P.text pieces.old)) result self.new }
+        ensures writer { (path : List ℕ) → is_of writer.old path → is_of writer.new path }
+    {
+        let bytes = gather(alloc, pieces)?;
+        self.write(writer, &bytes)
+    }
 
     /// Syncs a new file: what was written to it outlasts a crash.
     fn sync_file(&mut self, writer: &mut Self::Writer) -> Result<(), StoreFault>

@@ -17,8 +17,8 @@ returns g c = λ times log m covers at.
     let k : ℤ = c.args.hour in
     let hour : c.in-Some.hour ≡ k = c.in-Some.ensures.some.0 ∙ fits in
     let time : HasTime k = subst HasTime fits c.in-Some.ensures.some.1 in
-    let content : Content = c.args.head.content in
-    told_ok c.cut_in.result c.map_err.result _ _ (λ block. IsBlockOfLog c.args.encoding log m k c.args.ulid.now block) c.map_err.ensures.cases
+    let content : Content = c.args.head.now.content in
+    told_ok c.plan_in.result c.map_err.result _ _ (λ block. IsBlockOfLog c.args.encoding log m k c.args.ulid.now block) c.map_err.ensures.cases
     (λ block both.
     let inner : IsEdge k → ⊥ = subst (λ (j : ℤ). IsEdge j → ⊥) hour both.1 in
     let rows : rows_of k content ≡ rows_of k at.whole = ap (rows_of k) at.seen ∙ c.rows_suffice.ensures k times at.whole (covers time inner) in
@@ -32,4 +32,4 @@ returns g c = λ times log m covers at.
       min_valid = at.replayed.min_valid;
       is_block = subst (λ (rs : List BlockRow). IsBlockOf c.args.encoding block (record { ulid = c.args.ulid.now; hour = k; rows = rs })) rows is;
     })
-    (both_ok _ (λ block. IsEdge c.in-Some.hour → ⊥) c.cut_in.result c.cut_in.ensures.block (not_refused c.cut_in.result Edge (IsEdge c.in-Some.hour) (λ edge. c.cut_in.ensures.edge.1 edge)))
+    (both_ok _ (λ block. IsEdge c.in-Some.hour → ⊥) c.plan_in.result c.plan_in.ensures.block (not_refused c.plan_in.result Edge (IsEdge c.in-Some.hour) (λ edge. c.plan_in.ensures.edge.1 edge)))
