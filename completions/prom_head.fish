@@ -82,7 +82,7 @@ complete -c prom_head -n '__fish_seen_subcommand_from cut' -l xor -d 'Write XOR 
 complete -c prom_head -n '__fish_seen_subcommand_from cut' -l unpack -s z -d 'Read compressed records too: the log that `unpack` would write'
 complete -c prom_head -n '__fish_seen_subcommand_from cut' -l past-damage -d 'Go on after damage with all that can be read, compressed or not'
 complete -c prom_head -n '__fish_seen_subcommand_from cut' -l workers -r -d 'How many threads replay the log, 1 to 64; no result depends on it [default: 4]'
-complete -c prom_head -n '__fish_seen_subcommand_from cut' -l round-pages -r -d 'How many pages are held decoded at a time, 1 to 65536; no result depends on it [default: 256]'
+complete -c prom_head -n '__fish_seen_subcommand_from cut' -l round-pages -r -d 'How many pages are held decoded at a time, 1 to 65536; no result depends on it [default: 32]'
 complete -c prom_head -n '__fish_seen_subcommand_from cut' -l min-valid -r -d 'Leave out samples before this time in milliseconds, and deletions that end before it'
 complete -c prom_head -n '__fish_seen_subcommand_from cut' -l min-valid-of -r -d 'Take the time of --min-valid from the blocks in a server'\''s data directory'
 complete -c prom_head -n '__fish_seen_subcommand_from cut' -l help -s h -d 'Print help (see more with '\''--help'\'')'
