@@ -20,5 +20,6 @@ mod AppliedWorked
 mod ValidityWorked
 pub mod DraftLemmas
 pub mod Idle
+pub mod Growing
 pub mod OnlyCounted
 pub mod Numbered

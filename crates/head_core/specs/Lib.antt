@@ -6,4 +6,5 @@ pub mod Applied
 pub mod Kept
 pub mod Heads
 pub mod Room
+pub mod Growing
 pub mod Draft

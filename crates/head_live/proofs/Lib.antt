@@ -17,3 +17,7 @@ pub mod LogSends
 pub mod TellLemmas
 pub mod TotalLemmas
 pub mod Sends
+pub mod KnownLemmas
+pub mod InUseLemmas
+pub mod KeyLemmas
+pub mod AgainLemmas

@@ -1,9 +1,9 @@
 -- Rows whose labels are read and whose label sets are numbered, one after another.
 use Rattle.std.proofs.Common.{◌≡◌, ℕ, ◌+◌, ◌<◌, Bool, true, false, List, [], ◌∷◌, ◌++◌, Vec, Some, ap, sym, subst, ◌∙◌, refl, append_assoc, length, get_or, take, drop}
-use Rattle.std.specs.Prelude.{ℤ, All, map, slice_get, unwrap_or, if◌then◌else◌}
+use Rattle.std.specs.Prelude.{All, map, slice_get, unwrap_or, if◌then◌else◌}
 use Rattle.std.specs.Global.{Global}
 use Rattle.std.proofs.lemmas.List.{map-append, take-append-drop, take-map, take_more}
-use Rattle.std.proofs.lemmas.List.Elements.{All-append, All-cons, All-head, All-map, All-nil, All-tail}
+use Rattle.std.proofs.lemmas.List.Elements.{All-append, All-cons, All-map, All-nil}
 use Rattle.std.proofs.lemmas.Option.{slice_get-map, slice_get_read}
 use Rattle.std.specs.Option.{option_map}
 use Rattle.wal_record.specs.declared.labels.Label.{Label}
@@ -14,11 +14,9 @@ use Rattle.head_series.specs.Table.{has_series, with_series}
 use Rattle.head_series.specs.Texts.{place}
 use Rattle.head_live.specs.declared.fault.PrepareFault.{PrepareFault}
 use Rattle.head_live.specs.declared.fault.PrepareFault.TheVariants as prepare
-use Rattle.head_live.specs.declared.prepared.PreparedRow.{PreparedRow}
 use Rattle.head_live.specs.declared.rows.RawRow.{RawRow}
 use Rattle.head_live.specs.Rows.{IsFirstBad, IsRefusal, Row, row_of}
 use Rattle.head_live.specs.Refused.{IsRefusedAt, IsRefusedSet, labels_of}
-use Rattle.head_live.specs.Sets.{ArePlaced, with_set}
 use Rattle.head_live.proofs.SetLemmas.{at_place, place_kept}
 
 -- ---- the labels of a row
@@ -82,59 +80,12 @@ row_refused raws k raw prepare.Memory within is before refused = tt
 
 -- ---- the numbers of label sets
 
-placed_kept : (l m : Labels) (sets : List Labels) (i : ℕ) → place (same_labels l) sets ≡ Some i → place (same_labels l) (with_series sets m) ≡ Some i
+pub placed_kept : (l m : Labels) (sets : List Labels) (i : ℕ) → place (same_labels l) sets ≡ Some i → place (same_labels l) (with_series sets m) ≡ Some i
 placed_kept l m sets i p = at (has_series sets m) where
   at : (b : Bool) → place (same_labels l) (if b then sets else sets ++ m ∷ []) ≡ Some i
   at true = p
   at false = place_kept l m sets i p
 
 -- the labels in a place
-at_number : (l : Labels) (sets : List Labels) (i : ℕ) → place (same_labels l) sets ≡ Some i → unwrap_or (slice_get sets i) [] ≡ l
+pub at_number : (l : Labels) (sets : List Labels) (i : ℕ) → place (same_labels l) sets ≡ Some i → unwrap_or (slice_get sets i) [] ≡ l
 at_number l sets i p = ap (λ o. unwrap_or o []) (at_place l sets i p)
-
-abbrev labelled : Labels → PreparedRow → Row
-labelled l p = record { labels = l; time = p.time; value = p.value }
-
--- a row keeps its label set
-row_kept : (sets : List Labels) (m : Labels) (p : PreparedRow) → place (same_labels (with_set sets p).labels) sets ≡ Some p.set → with_set (with_series sets m) p ≡ with_set sets p
-row_kept sets m p h = ap (λ l. labelled l p) (at_number (with_set sets p).labels (with_series sets m) p.set (placed_kept (with_set sets p).labels m sets p.set h))
-
-abbrev IsPlaced : List Labels → PreparedRow → Type 0
-IsPlaced sets p = place (same_labels (with_set sets p).labels) sets ≡ Some p.set
-
-rows_kept : (sets : List Labels) (m : Labels) (ps : List PreparedRow) → All (IsPlaced sets) ps → map (with_set (with_series sets m)) ps ≡ map (with_set sets) ps
-rows_kept sets m [] h = refl
-rows_kept sets m (p ∷ ps) h =
-    ap (λ r. r ∷ map (with_set (with_series sets m)) ps) (row_kept sets m p (All-head (IsPlaced sets) p ps h))
-    ∙ ap (λ rs. with_set sets p ∷ rs) (rows_kept sets m ps (All-tail (IsPlaced sets) p ps h))
-
-placed_rows_kept : (sets : List Labels) (m : Labels) (ps : List PreparedRow) → All (IsPlaced sets) ps → All (IsPlaced (with_series sets m)) ps
-placed_rows_kept sets m ps h = λ k d within. one (get_or ps k d) (h k d within) where
-  one : (p : PreparedRow) → IsPlaced sets p → IsPlaced (with_series sets m) p
-  one p q = ap (λ (r : Row). place (same_labels r.labels) (with_series sets m)) (row_kept sets m p q) ∙ placed_kept (with_set sets p).labels m sets p.set q
-
--- with one row more
-module _ (old sets : List Labels) (l : Labels) (ps : List PreparedRow) (p : PreparedRow) (raws : List RawRow) (k : ℕ) (raw : RawRow) (grown : sets ≡ with_series old l) (at : place (same_labels l) sets ≡ Some p.set)
-    (labels : l ≡ (row_of raw).labels) (time : p.time ≡ raw.time) (value : p.value ≡ raw.value) (placed : ArePlaced old ps) where
-  timed : (t v : ℤ) → p.time ≡ t → p.value ≡ v → labelled l p ≡ record { labels = l; time = t; value = v }
-  timed t v e f = ap (λ (x : ℤ). made x p.value) e ∙ ap (λ (x : ℤ). made t x) f where
-    made : ℤ → ℤ → Row
-    made x y = record { labels = l; time = x; value = y }
-
-  last : with_set sets p ≡ row_of raw
-  last = ap (λ m. labelled m p) (at_number l sets p.set at) ∙ (timed raw.time raw.value time value ∙ ap (λ m. labelled_by m raw) labels) where
-    labelled_by : Labels → RawRow → Row
-    labelled_by m w = record { labels = m; time = w.time; value = w.value }
-
-  pub rows_more : k < length raws → raw ≡ get_or raws k raw → map (with_set old) ps ≡ map row_of (take k raws) → map (with_set sets) (ps ++ p ∷ []) ≡ map row_of (take (k + 1) raws)
-  rows_more within is before =
-      map-append (with_set sets) ps (p ∷ [])
-      ∙ (ap (λ rs. rs ++ with_set sets p ∷ []) (ap (λ ss. map (with_set ss) ps) grown ∙ (rows_kept old l ps placed ∙ before))
-      ∙ (ap (λ r. map row_of (take k raws) ++ r ∷ []) (last ∙ ap row_of is)
-      ∙ (sym (map-append row_of (take k raws) (get_or raws k raw ∷ [])) ∙ ap (map row_of) (sym (take_more raws k raw within)))))
-
-  pub placed_more : ArePlaced sets (ps ++ p ∷ [])
-  placed_more =
-      All-append (IsPlaced sets) ps (p ∷ [])
-      (subst (λ ss. All (IsPlaced ss) ps) (sym grown) (placed_rows_kept old l ps placed))
-      (All-cons (IsPlaced sets) p [] (ap (λ m. place (same_labels m) sets) (at_number l sets p.set at) ∙ at) (All-nil (IsPlaced sets)))

@@ -3,7 +3,10 @@ pub mod Sets
 pub mod Refused
 pub mod Verdicts
 pub mod Batch
+pub mod InUse
 pub mod Judged
+pub mod Known
+pub mod Keys
 pub mod Faults
 pub mod Told
 pub mod Placed

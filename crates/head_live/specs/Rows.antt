@@ -1,10 +1,11 @@
 -- Rows for a live head, and the errors of their labels.
-use Rattle.std.specs.Prelude.{◌≡◌, ℕ, ◌<◌, ℤ, List, ◌∷◌, ◌++◌, All, Some, length, map, slice_get, take}
+use Rattle.std.specs.Prelude.{◌≡◌, ℕ, ◌<◌, ◌≤◌, ℤ, List, [], ◌∷◌, ◌++◌, All, Some, length, map, slice_get, take, unwrap_or}
 use Rattle.wal_record.specs.declared.labels.Label.{Label}
 use Rattle.wal_record.specs.declared.labels.LabelFault.{LabelFault}
 use Rattle.wal_record.specs.declared.labels.LabelFault.TheVariants as label
 use Rattle.wal_record.specs.Labels.{Labels, label as label_of, IsLabelSet, IsNext}
 use Rattle.head_live.specs.declared.rows.RawRow.{RawRow}
+use Rattle.head_live.specs.declared.rows.AgainRow.{AgainRow}
 use Rattle.head_live.specs.declared.fault.PrepareFault.{PrepareFault}
 use Rattle.head_live.specs.declared.fault.PrepareFault.TheVariants as prepare
 
@@ -44,3 +45,19 @@ pub record IsFirstBad (rows : List Row) (place : ℕ) (fault : LabelFault) : Typ
 abbrev pub IsRefusal : List Row → PrepareFault → Type 0
 IsRefusal rows (prepare.Labels row fault) = IsFirstBad rows row fault
 IsRefusal rows prepare.Memory = Unit {0}
+
+-- What is prepared: the label set of each row that was checked, and the rows that are ready to be appended.
+pub record ReadyRows : Type 0 where
+  pub sets : List Labels
+  pub rows : List Row
+
+-- a checked row with another time and value
+abbrev pub row_again : List Labels → AgainRow → Row
+row_again sets r = record { labels = unwrap_or (slice_get sets r.place) []; time = r.time; value = r.value }
+
+-- The row with this index is the first that has no place among so many checked rows.
+pub record IsFirstPast (count : ℕ) (rows : List AgainRow) (index : ℕ) : Type 0 where
+  pub row : AgainRow
+  pub here : slice_get rows index ≡ Some row
+  pub before : All (λ r. r.place < count) (take index rows)
+  pub past : count ≤ row.place

@@ -38,6 +38,26 @@ impl<T: Drop> From<AllocFailed<T>> for PrepareFault {
     }
 }
 
+/// The error of [`Prepared::again`](crate::Prepared::again).
+#[derive(Clone, Copy, Debug, PartialEq, Eq)]
+pub enum AgainFault {
+    /// There is no checked row in the place of this row. It is the first such row.
+    NoSuchRow { row: usize },
+    /// Out of memory, and every row has its place.
+    Memory,
+}
+
+impl From<AllocError> for AgainFault {
+    ghost use Rattle.std.specs.Prelude.{◌≡◌};
+    ghost use Rattle.head_live.specs.declared.fault.AgainFault.TheVariants.{Memory};
+
+    ghost from_gives = { λ _ f. f ≡ Memory };
+
+    fn from(_error: AllocError) -> AgainFault {
+        AgainFault::Memory
+    }
+}
+
 /// The error of an append. If several apply, the first in this list is returned, except that `Memory` can come at any point.
 #[derive(Clone, Copy, Debug, PartialEq, Eq)]
 pub enum AppendFault {

@@ -1,15 +1,20 @@
 //! The verdicts on rows.
 
-ghost use Rattle.std.specs.Prelude.{◌≡◌, ◌⊎◌, ◌++◌, ◌∷◌, [], Err, IfErr, IfOk, None, OnOk, Some, false, map};
+ghost use Rattle.std.specs.Prelude.{◌≡◌, ◌⊎◌, ◌<◌, ◌++◌, ◌∷◌, [], All, Err, IfErr, IfOk, None, OnOk, Some, false, length};
 ghost use Rattle.hw_bytes.specs.Lists.{or_else};
 ghost use Rattle.wal_record.specs.Labels.{same_labels};
 ghost use Rattle.head_series.specs.Rows.{AreDistinct};
 ghost use Rattle.head_live.specs.Batch.{AreSpent, is_missing};
 ghost use Rattle.head_live.specs.Verdicts.{verdicts};
+ghost use Rattle.head_live.specs.Keys.{labels_of_keys};
+ghost use Rattle.head_live.specs.Known.{Knows};
+ghost use Rattle.head_live.specs.Sets.{sets_in};
 ghost use Rattle.head_live.specs.Judged.{AreStarts, IsBatch, IsStart, entry_after, entry_by, is_refused, left_by, next_after, one_past, sample_after, standing_after, verdict_after};
 
 use crate::fault::AppendFault;
-use crate::prepared::{Prepared, PreparedRow};
+use crate::known::KnownSets;
+use crate::prepared::{Prepared, PreparedRow, set_of};
+use crate::set_key::SetKey;
 use crate::verdict::Verdict;
 use head_column::reaches;
 use head_core::Head;
@@ -36,12 +41,14 @@ pub struct Judged {
 }
 
 // Looks a label set up in the head.
-fn standing_of(head: &Head, labels: &LabelSet) -> Standing
+fn standing_of(head: &Head, known: &mut KnownSets, labels: &Arc<LabelSet, Global>) -> Standing
     requires sound { head.now.failed ≡ false }
     requires distinct { AreDistinct same_labels head.now.content.table.series }
-    ensures { IsStart head.now.content labels.now result }
+    requires known { Knows known.old head.now.content.table.series }
+    ensures standing { IsStart head.now.content labels.now.value result }
+    ensures known { Knows known.new head.now.content.table.series }
 {
-    match head.find(labels) {
+    match known.find(head, labels) {
         Some(slot) => Standing {
             reference: head.reference(slot),
             last: head.last_time(slot),
@@ -53,19 +60,24 @@ fn standing_of(head: &Head, labels: &LabelSet) -> Standing
     }
 }
 
-// Looks each label set up in the head.
+// Looks the label sets with these numbers up in the head.
 fn standings(
     alloc: Global,
     head: &Head,
-    sets: &[Arc<LabelSet, Global>],
+    known: &mut KnownSets,
+    sets: &[SetKey],
+    numbers: &[usize],
 ) -> Result<Vec<Standing>, AllocError>
     requires sound { head.now.failed ≡ false }
     requires distinct { AreDistinct same_labels head.now.content.table.series }
-    ensures { IfOk result (λ standings. AreStarts head.now.content (map (λ s. s.value) sets.now) standings.items) }
+    requires known { Knows known.old head.now.content.table.series }
+    requires numbers { All (λ number. number < length sets.now) numbers.now }
+    ensures standings { IfOk result (λ standings. AreStarts head.now.content (sets_in (labels_of_keys sets.now) numbers.now) standings.items) }
+    ensures known { Knows known.new head.now.content.table.series }
 {
-    let mut standings = Vec::with_capacity(alloc, sets.len())?;
-    for labels in sets {
-        standings.push(standing_of(head, labels))?;
+    let mut standings = Vec::with_capacity(alloc, numbers.len())?;
+    for number in numbers {
+        standings.push(standing_of(head, known, &sets[*number].labels))?;
     }
     Ok(standings)
 }
@@ -155,16 +167,25 @@ impl Judged {
 
 /// Judges rows in order, each against the head and the accepted rows before it. Rows before the least valid time are expired. Returns
 /// `RefsSpent` if a new label set would need a reference past 2^64 - 1, and `Memory` if out of memory.
-pub fn judge(alloc: Global, head: &Head, rows: &Prepared) -> Result<Judged, AppendFault>
-    requires { head.now.failed ≡ false }
-    ensures verdicts { IfOk result (λ judged. judged.verdicts.items ≡ verdicts head.now.content rows.now) }
-    ensures batch { IfOk result (λ judged. IsBatch head.now.content rows.now judged.series.items judged.samples.items) }
-    ensures spent { result ≡ Err AppendFault.RefsSpent → AreSpent head.now.content rows.now }
+pub fn judge(
+    alloc: Global,
+    head: &Head,
+    known: &mut KnownSets,
+    rows: &Prepared,
+) -> Result<Judged, AppendFault>
+    requires sound { head.now.failed ≡ false }
+    requires known { Knows known.old head.now.content.table.series }
+    ensures verdicts { IfOk result (λ judged. judged.verdicts.items ≡ verdicts head.now.content rows.now.rows) }
+    ensures batch { IfOk result (λ judged. IsBatch head.now.content rows.now.rows judged.series.items judged.samples.items) }
+    ensures spent { result ≡ Err AppendFault.RefsSpent → AreSpent head.now.content rows.now.rows }
     ensures others { IfErr result (λ fault. (fault ≡ AppendFault.RefsSpent) ⊎ (fault ≡ AppendFault.Memory)) }
+    ensures known { Knows known.new head.now.content.table.series }
 {
     // for the proof: no two series of the head are equal
     head.series();
-    let mut standings = standings(alloc, head, &rows.sets)?;
+    let sets = rows.sets.as_slice();
+    let numbers = rows.in_use.numbers();
+    let mut standings = standings(alloc, head, known, sets, numbers)?;
     let min_valid = head.min_valid();
     let mut next = head.next_reference();
     let mut judged = Judged {
@@ -173,7 +194,7 @@ pub fn judge(alloc: Global, head: &Head, rows: &Prepared) -> Result<Judged, Appe
         samples: Vec::with_capacity(alloc, rows.rows.len())?,
     };
     for row in &rows.rows {
-        let labels = &rows.sets[row.set];
+        let labels = set_of(sets, numbers, row.set);
         judged.judge_row(min_valid, &mut standings[row.set], &mut next, labels, row)?;
     }
     Ok(judged)

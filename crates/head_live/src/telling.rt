@@ -3,7 +3,7 @@
 ghost use Rattle.std.specs.Prelude.{◌≡◌, ◌+◌, ◌≤◌, ◌++◌, IfOk, length, map, vec_capacity, vec_len};
 ghost use Rattle.head_live.specs.Told.{accepted_count, answer_of, answers, row_told};
 
-use crate::prepared::Prepared;
+use crate::prepared::{Prepared, set_of};
 use crate::told::Told;
 use crate::verdict::Verdict;
 use std::alloc::{AllocError, Global};
@@ -11,12 +11,14 @@ use std::alloc::{AllocError, Global};
 /// Copies rows into the form in which an appender keeps them. Each has the verdict `Stale` until `tell` sets it. Returns an error if out
 /// of memory.
 pub fn waiting(alloc: Global, rows: &Prepared) -> Result<Vec<Told>, AllocError>
-    ensures { IfOk result (λ waiting. map row_told waiting.items ≡ rows.now) }
+    ensures { IfOk result (λ waiting. map row_told waiting.items ≡ rows.now.rows) }
 {
+    let sets = rows.sets.as_slice();
+    let numbers = rows.in_use.numbers();
     let mut waiting = Vec::with_capacity(alloc, rows.rows.len())?;
     for row in &rows.rows {
         waiting.push(Told {
-            labels: rows.sets[row.set].clone()?,
+            labels: set_of(sets, numbers, row.set).clone()?,
             time: row.time,
             value: row.value,
             verdict: Verdict::Stale,

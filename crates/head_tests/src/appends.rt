@@ -4,7 +4,7 @@ use crate::cases::{Case, check};
 use crate::device::Device;
 use crate::live_views::views;
 use crate::opening::{Entry, head_of};
-use crate::rows::{Row, prepared};
+use crate::rows::{Row, prepared, prepared_again};
 use crate::{or_memory, same};
 use head_live::{AppendFault, Live, PrepareFault, Prepared, Verdict};
 use std::alloc::{AllocError, Global};
@@ -61,7 +61,8 @@ fn push_letters(text: &mut String, verdicts: &[Verdict]) -> Result<(), AllocErro
     Ok(())
 }
 
-fn push_told(
+/// What prepared rows are told, a letter each, or the fault, and how many bytes the log has then.
+pub(crate) fn push_told(
     text: &mut String,
     live: &mut Live<Device>,
     rows: &Prepared,
@@ -88,6 +89,17 @@ pub(crate) fn push_call(
     }
 }
 
+// The same by rows that were prepared before, with other times and values.
+fn push_again(
+    text: &mut String,
+    alloc: Global,
+    live: &mut Live<Device>,
+    rows: &[Row],
+) -> Result<(), AllocError> {
+    let rows = or_memory(prepared_again(alloc, rows))?;
+    push_told(text, live, &rows)
+}
+
 // The bytes that the device took, and what the head shows.
 pub(crate) fn push_left(
     text: &mut String,
@@ -110,6 +122,22 @@ impl Case for Appends {
         let mut live = open(alloc, self)?;
         for rows in self.calls {
             push_call(&mut text, alloc, &mut live, rows)?;
+        }
+        push_left(&mut text, alloc, live)?;
+        Ok(text)
+    }
+}
+
+// The same calls by rows that were prepared before.
+#[derive(Clone, Copy)]
+struct Repeated(Appends);
+
+impl Case for Repeated {
+    fn text(&self, alloc: Global) -> Result<String, AllocError> {
+        let mut text = String::new(alloc);
+        let mut live = open(alloc, &self.0)?;
+        for rows in self.0.calls {
+            push_again(&mut text, alloc, &mut live, rows)?;
         }
         push_left(&mut text, alloc, live)?;
         Ok(text)
@@ -210,6 +238,9 @@ const FULL: &[(Appends, &str)] = &[(
 fn live_appends(rt: HostRuntime) {
     for cases in [LIVE, SPENT, REBOUND, NEW, FULL] {
         check(&rt, cases);
+        for (case, wanted) in cases {
+            check(&rt, &[(Repeated(*case), *wanted)]);
+        }
     }
 }
 

@@ -23,6 +23,8 @@ macro_rules! run {
 }
 
 #[cfg(test)]
+mod again;
+#[cfg(test)]
 mod appends;
 #[cfg(test)]
 mod building;

@@ -6,7 +6,7 @@ use crate::rows::pair;
 use crate::{one, same};
 use head_column::Chunk;
 use head_core::{Counts, Head, HeadFault, Hour, Resolver, Slot};
-use head_live::{Prepared, RawRow};
+use head_live::{PrepareFault, Prepared, RawRow};
 use head_replay::{NoGate, Tallied, replay, tally};
 use std::alloc::{AllocError, Global};
 use std::process::Abort;
@@ -219,10 +219,15 @@ fn rows(alloc: Global, count: u32) -> Result<Vec<RawRow>, AllocError> {
     Ok(rows)
 }
 
+/// So many prepared rows, each of a series of its own.
+pub(crate) fn prepared_rows(alloc: Global, count: u32) -> Result<Prepared, PrepareFault> {
+    Prepared::new(alloc, &rows(alloc, count)?)
+}
+
 #[test]
 fn rows_of_many_series(rt: HostRuntime) -> Result<(), Fail> {
     for count in [300, 70_000] {
-        let prepared = Prepared::new(rt.alloc(), &rows(rt.alloc(), count)?)?;
+        let prepared = prepared_rows(rt.alloc(), count)?;
         same(&rt, count, prepared.len(), count as usize);
     }
     Ok(())

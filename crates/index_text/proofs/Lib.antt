@@ -18,6 +18,7 @@ pub mod SkipLaws
 pub mod PassLaws
 pub mod Orders
 pub mod Distinct
+pub mod Arranged
 pub mod Gathered
 pub mod GroupLaws
 pub mod GroupLoops

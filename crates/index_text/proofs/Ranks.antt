@@ -160,6 +160,18 @@ module _ {A : Type 0} (cmp : A → A → Ordering) where
   before_at y (z ∷ zs) h zero d lt = h.0
   before_at y (z ∷ zs) h (suc j) d lt = before_at y zs h.1 j d (omega (arith, lt))
 
+  -- what is at a place has that rank
+  pub rank-at : IsStrictOrder → (x d : A) (ys : List A) (i : ℕ) → IsAscending cmp ys → i < length ys → get_or ys i d ≡ x → rank cmp x ys ≡ i
+  rank-at order x d [] i h lt e = absurd (omega (arith, lt))
+  rank-at order x d (y ∷ ys) zero h lt e =
+      let me : is_lt (cmp y x) ≡ false = ap (λ a. is_lt (cmp y a)) (sym e) ∙ order.itself y in
+      let no : rank cmp x ys ≡ 0 = ap (λ a. rank cmp a ys) (sym e) ∙ none_before order y ys h.0 in
+      rw (me, no) refl
+  rank-at order x d (y ∷ ys) (suc i) h lt e =
+      let less : is_lt (cmp y x) ≡ true = ap is_lt (ap (cmp y) (sym e) ∙ before_at y ys h.0 i d (omega (arith, lt))) in
+      let more : rank cmp x ys ≡ i = rank-at order x d ys i h.1 (omega (arith, lt)) e in
+      rw less (omega (arith, more))
+
   at_less : (ys : List A) → IsAscending cmp ys → (i j : ℕ) (d : A) → i < j → j < length ys → cmp (get_or ys i d) (get_or ys j d) ≡ Less
   at_less [] h i j d lt within = absurd (omega (arith, within))
   at_less (y ∷ ys) h zero zero d lt within = absurd (omega (arith, lt))

@@ -6,8 +6,10 @@ ghost use Rattle.index_text.specs.Index.{labels_from, pairs as pairs_of, symbols
 ghost use Rattle.index_text.specs.Lent.{compare_row_label, label_of, row_label_of};
 ghost use Rattle.index_text.specs.Sets.{ascending};
 
+use crate::arranging::arrange;
 use crate::gathering::{row_labels, texts_of};
 use crate::groups::distinct_labels;
+use crate::numbering::{LabelPlaces, label_places};
 use crate::ordering::{LentLabel, RowLabel, distinct_texts, sorted_row_labels};
 use crate::row::IndexRow;
 use std::alloc::{AllocError, Global};
@@ -20,6 +22,8 @@ pub(crate) struct Contents<'a> {
     pub(crate) pairs: Vec<LentLabel<'a>>,
     /// The distinct names and values.
     pub(crate) symbols: Vec<&'a [u8]>,
+    /// The probable places of the labels among the symbols, row by row.
+    pub(crate) places: LabelPlaces,
 }
 
 // Written by hand instead of derived: the proof of a function that drops these lists then has one call instead of a copy of this body.
@@ -29,6 +33,7 @@ impl Drop for Contents<'_> {
             labels: _labels,
             pairs: _pairs,
             symbols: _symbols,
+            places: _places,
         } = self;
     }
 }
@@ -40,12 +45,16 @@ pub(crate) fn contents_of(alloc: Global, rows: &[IndexRow]) -> Result<Contents<'
     ensures pairs { IfOk result (λ contents. map label_of contents.pairs.items ≡ pairs_of rows.now) }
     ensures symbols { IfOk result (λ contents. nows contents.symbols.items ≡ symbols_of rows.now) }
 {
-    let labels = sorted_row_labels(row_labels(alloc, rows)?);
+    let mut labels = row_labels(alloc, rows)?;
+    let places = label_places(alloc, labels.as_slice())?;
+    arrange(alloc, &mut labels, &places)?;
+    let labels = sorted_row_labels(labels);
     let pairs = distinct_labels(alloc, labels.as_slice())?;
     let symbols = distinct_texts(texts_of(alloc, pairs.as_slice())?);
     Ok(Contents {
         labels,
         pairs,
         symbols,
+        places,
     })
 }

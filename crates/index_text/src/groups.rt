@@ -14,7 +14,7 @@ ghost use Rattle.index_text.specs.Rows.{AreSmall, IsSmall};
 ghost use Rattle.index_text.specs.Sets.{IsAscending, text_cmp};
 
 use crate::ordering::{LentLabel, RowLabel};
-use crate::writer::{put_framed, rank_of};
+use crate::writer::{put_framed, rank_near};
 use hw_bytes::{WriteFault, four_bytes_of, put_be32, put_padding};
 use std::alloc::{AllocError, Global};
 
@@ -120,8 +120,12 @@ fn put_label_index(
     body.clear();
     put_be32(body, 1)?;
     put_be32(body, four_bytes_of(labels.len())?)?;
+    // values rise, so the next one is probably behind the last one
+    let mut behind = 0;
     for label in labels {
-        put_be32(body, rank_of(table, label.value) as u32)?;
+        let rank = rank_near(table, label.value, behind);
+        put_be32(body, rank as u32)?;
+        behind = rank.saturating_add(1);
     }
     put_framed(out, body.as_slice())
 }

@@ -1,6 +1,7 @@
 //! Writing the index of a block (index.md of the public standard), and the steps of reading one.
 #![tactic(auto)]
 
+mod arranging;
 mod contents;
 mod element;
 mod fault;
@@ -10,6 +11,7 @@ mod groups;
 mod head;
 mod laws;
 mod lists;
+mod numbering;
 mod ordering;
 mod passed;
 mod row;

@@ -13,10 +13,27 @@ pub(crate) struct LentLabel<'a> {
 }
 
 /// A borrowed label with the index of its row. They are ordered by label, then by row.
-#[derive(Clone, Copy, PartialEq, Eq, PartialOrd, Ord)]
+#[derive(Clone, Copy, Eq, PartialOrd, Ord)]
 pub(crate) struct RowLabel<'a> {
     pub(crate) label: LentLabel<'a>,
     pub(crate) row: usize,
+}
+
+impl PartialEq for RowLabel<'_> {
+    ghost use Rattle.std.specs.Prelude.{◌&&◌, nat_eq};
+    ghost use Rattle.std.proofs.Common.{rules};
+    ghost use Rattle.std.specs.Cmp.Rules.{comparing};
+    ghost use Rattle.wal_record.specs.Labels.{same_label};
+    ghost use Rattle.index_text.specs.Lent.{label_of};
+
+    ghost eq = { λ a b. same_label (label_of a.label) (label_of b.label) && nat_eq a.row b.row };
+
+    ghost laws = { Prim.search (comparing, rules) };
+
+    // Rows differ more often than labels, and without a look at the texts.
+    fn eq(&self, other: &Self) -> bool {
+        self.row == other.row && self.label == other.label
+    }
 }
 
 // Sorts texts and drops repeats.

@@ -20,6 +20,7 @@ ghost use Rattle.index_text.specs.Index.{
   reference_step as reference_step_of,
 };
 
+use crate::numbering::LabelPlaces;
 use crate::row::{ChunkMeta, IndexRow};
 use hw_bytes::{
     WriteFault, four_bytes_of, put_be32, put_padding, put_sum, put_uvarint, put_varint,
@@ -61,30 +62,62 @@ fn is_before(text: &[u8], other: &[u8]) -> bool
 }
 
 // Counts the texts of a sorted table that are less than this one. For a symbol this is its reference.
-pub(crate) fn rank_of(table: &[&[u8]], text: &[u8]) -> usize
+fn rank_of(table: &[&[u8]], text: &[u8]) -> usize
     requires { IsAscending text_cmp (nows table.now) }
     ensures { result ≡ rank text_cmp text.now (nows table.now) }
 {
     table.partition_point(|other| is_before(other, text))
 }
 
-// Appends the references of the name and the value of a label.
-fn put_refs(out: &mut Vec<u8>, table: &[&[u8]], name: &[u8], value: &[u8]) -> Result<(), AllocError>
+// Does what `rank_of` does, at once if the text is at this place, where it probably is.
+pub(crate) fn rank_near(table: &[&[u8]], text: &[u8], place: usize) -> usize
+    requires { IsAscending text_cmp (nows table.now) }
+    ensures { result ≡ rank text_cmp text.now (nows table.now) }
+{
+    match table.get(place) {
+        Some(there) if *there == text => place,
+        _ => rank_of(table, text),
+    }
+}
+
+// Appends the references of the name and the value of a label, which are probably at these places.
+fn put_refs(
+    out: &mut Vec<u8>,
+    table: &[&[u8]],
+    name: &[u8],
+    value: &[u8],
+    name_place: usize,
+    value_place: usize,
+) -> Result<(), AllocError>
     requires { IsAscending text_cmp (nows table.now) }
     ensures { OnOk result (out.new.items ≡ out.old.items ++ label_refs (nows table.now) (label name.now value.now)) }
 {
-    put_uvarint(out, rank_of(table, name) as u64)?;
-    put_uvarint(out, rank_of(table, value) as u64)
+    put_uvarint(out, rank_near(table, name, name_place) as u64)?;
+    put_uvarint(out, rank_near(table, value, value_place) as u64)
 }
 
-// Appends the references of all labels of a set.
-fn put_labels(out: &mut Vec<u8>, table: &[&[u8]], labels: &LabelSet) -> Result<(), AllocError>
+// Appends the references of all labels of a set, of which the first one has this index among the places.
+fn put_labels(
+    out: &mut Vec<u8>,
+    table: &[&[u8]],
+    labels: &LabelSet,
+    places: &LabelPlaces,
+    first: usize,
+) -> Result<(), AllocError>
     requires { IsAscending text_cmp (nows table.now) }
     ensures { OnOk result (out.new.items ≡ out.old.items ++ flat_map (label_refs (nows table.now)) labels.now) }
 {
     for i in 0..labels.len() {
         let (name, value) = labels.pair(i);
-        put_refs(out, table, name, value)?;
+        let index = first.wrapping_add(i);
+        put_refs(
+            out,
+            table,
+            name,
+            value,
+            places.name(index),
+            places.value(index),
+        )?;
     }
     Ok(())
 }
@@ -155,24 +188,31 @@ fn put_chunks(out: &mut Vec<u8>, chunks: &[ChunkMeta]) -> Result<(), AllocError>
     }
 }
 
-// Appends the contents of a series.
+// Appends the contents of a series, of whose labels the first one has this index among the places.
 #[tactic(auto, unfolding(crate::specs::Index::series_body))]
-fn put_series_body(out: &mut Vec<u8>, table: &[&[u8]], row: &IndexRow) -> Result<(), AllocError>
+fn put_series_body(
+    out: &mut Vec<u8>,
+    table: &[&[u8]],
+    row: &IndexRow,
+    places: &LabelPlaces,
+    first: usize,
+) -> Result<(), AllocError>
     requires { IsAscending text_cmp (nows table.now) }
     ensures { OnOk result (out.new.items ≡ out.old.items ++ series_body_text (nows table.now) row.now) }
 {
     put_uvarint(out, row.labels.len() as u64)?;
-    put_labels(out, table, &row.labels)?;
+    put_labels(out, table, &row.labels, places, first)?;
     put_uvarint(out, row.chunks.len() as u64)?;
     put_chunks(out, row.chunks.as_slice())
 }
 
-// Appends the series of rows, and returns their ids.
+// Appends the series of rows, whose labels are probably at these places, and returns their ids.
 pub(crate) fn put_series(
     alloc: Global,
     out: &mut Vec<u8>,
     table: &[&[u8]],
     rows: &[IndexRow],
+    near: &LabelPlaces,
 ) -> Result<Vec<u32>, WriteFault>
     requires { IsAscending text_cmp (nows table.now) }
     ensures written { OnOk result (out.new.items ≡ put_all 16 out.old.items (map (λ r. counted_text (series_body_text (nows table.now) r)) rows.now)) }
@@ -184,12 +224,14 @@ pub(crate) fn put_series(
 {
     let mut ids = Vec::with_capacity(alloc, rows.len())?;
     let mut body = Vec::new(alloc);
+    let mut first: usize = 0;
     for row in rows {
         put_padding(out, 16)?;
         ids.push(four_bytes_of(out.len() / 16)?)?;
         body.clear();
-        put_series_body(&mut body, table, row)?;
+        put_series_body(&mut body, table, row, near, first)?;
         put_counted(out, body.as_slice())?;
+        first = first.wrapping_add(row.labels.len());
     }
     Ok(ids)
 }

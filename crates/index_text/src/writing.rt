@@ -47,7 +47,7 @@ fn put_sections(
     let symbols = contents.symbols.as_slice();
     put_symbols(alloc, out, symbols)?;
     let series = out.len() as u64;
-    let ids = put_series(alloc, out, symbols, rows)?;
+    let ids = put_series(alloc, out, symbols, rows, &contents.places)?;
     let label_indices = out.len() as u64;
     let names = put_label_indices(alloc, out, symbols, contents.pairs.as_slice())?;
     let postings = out.len() as u64;

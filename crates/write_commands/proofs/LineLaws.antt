@@ -1,7 +1,10 @@
 -- Reading rows line by line.
-use Rattle.std.proofs.Common.{◌≡◌, ◌≢◌, ◌⊎◌, ℕ, ◌<◌, Bool, true, false, cond, ◌==◌, Option, Some, None, MatchOption, MatchBool, unwrap_or, List, [], ◌∷◌, ◌++◌, map, length, get_or, inl, inr, refl, sym, ap, ◌∙◌, subst, append_assoc, append-nil, arith, eqb-true, length-append, Bor}
+use Rattle.std.proofs.Common.{◌≡◌, ◌≢◌, ◌⊎◌, ℕ, ◌+◌, ◌<◌, All, Bool, true, false, cond, ◌==◌, Option, Some, None, MatchOption, MatchBool, unwrap_or, List, [], ◌∷◌, ◌++◌, map, length, get_or, inl, inr, refl, sym, ap, ◌∙◌, subst, append_assoc, append-nil, arith, eqb-true, length-append, Bor}
 use Rattle.std.proofs.lemmas.Fn.{always_returns_same}
-use Rattle.std.proofs.lemmas.List.{flat_map_more, get_or_at, map_push}
+use Rattle.std.proofs.lemmas.List.{flat_map_more, get_or_append_left, get_or_at, length-map, map-append, map_push}
+use Rattle.std.proofs.lemmas.List.Elements.{All-head, All-push, All-tail}
+use Rattle.std.proofs.lemmas.Option.{unwrap_or-slice_get}
+use Rattle.std.specs.Prelude.{slice_get}
 use Rattle.std.proofs.lemmas.Slice.Zip.{all_zipped_more}
 use Rattle.std.specs.declared.iter.Zip.{Zip}
 use Rattle.std.specs.declared.ops.RangeFrom.{RangeFrom}
@@ -12,8 +15,11 @@ use Rattle.std.specs.List.{AllZip, IsFirstMatchOrLen}
 use Rattle.std.specs.Slice.Iter.{split_callee, split_done, split_rest, split_steps}
 use Rattle.store.specs.Found.{Bytes, Found}
 use Rattle.write_commands.specs.RowTexts.{AreRowsAt, AreRowsOf, IsRowLine, lines_text}
-use Rattle.head_live.specs.Rows.{Row, row_of}
+use Rattle.wal_record.specs.Labels.{Labels}
+use Rattle.head_live.specs.Rows.{Row, row_again, row_of}
+use Rattle.head_live.specs.declared.rows.AgainRow.{AgainRow}
 use Rattle.head_live.specs.declared.rows.RawRow.{RawRow}
+use Rattle.write_commands.specs.RowParts.{sets_of}
 
 -- ---- the lines of a text, which is cut at its newlines, and their numbers
 
@@ -68,6 +74,10 @@ line_joined g s t line step tests =
 
 -- ---- the rows that they spell
 
+-- the row has its place among these
+abbrev pub HasPlace : List RawRow → AgainRow → Type 0
+HasPlace first r = r.place < length first
+
 -- rows are read of the text
 pub record AreReadUpTo (floats : Bool) (text : List ℕ) (rows : List Row) (left : List ℕ) : Type 0 where
   pub lines : List (List ℕ)
@@ -75,8 +85,8 @@ pub record AreReadUpTo (floats : Bool) (text : List ℕ) (rows : List Row) (left
   pub each : AllZip (IsRowLine floats) lines rows
 
 -- no row is read yet
-pub none_read : {floats : Bool} (text : List ℕ) (raws : List RawRow) → raws ≡ [] → AreReadUpTo floats text (map row_of raws) text
-none_read {floats} text raws none = subst (λ (rs : List RawRow). AreReadUpTo floats text (map row_of rs) text) (sym none) (record { lines = []; whole = refl; each = tt })
+pub none_read : {floats : Bool} (text : List ℕ) (sets : List Labels) (rows : List AgainRow) → rows ≡ [] → AreReadUpTo floats text (map (row_again sets) rows) text
+none_read {floats} text sets rows none = subst (λ (rs : List AgainRow). AreReadUpTo floats text (map (row_again sets) rs) text) (sym none) (record { lines = []; whole = refl; each = tt })
 
 -- one row more is read
 one_read : {floats : Bool} (text line left after : List ℕ) (rows : List Row) (row : Row) → AreReadUpTo floats text rows left → left ≡ (line ++ 10 ∷ []) ++ after → IsRowLine floats line row → AreReadUpTo floats text (rows ++ row ∷ []) after
@@ -90,12 +100,41 @@ one_read {floats} text line left after rows row so_far cut is = record {
   each = all_zipped_more (IsRowLine floats) so_far.lines rows line row so_far.each is;
 }
 
--- one row more is read and pushed
-pub row_pushed : {floats : Bool} (text line left after : List ℕ) (raws more : List RawRow) (raw : RawRow) → AreReadUpTo floats text (map row_of raws) left → left ≡ (line ++ 10 ∷ []) ++ after → IsRowLine floats line (row_of raw) → more ≡ raws ++ raw ∷ [] → AreReadUpTo floats text (map row_of more) after
-row_pushed {floats} text line left after raws more raw so_far cut is pushed =
-    subst (λ (rows : List Row). AreReadUpTo floats text rows after)
-    (sym (ap (λ (rs : List RawRow). map row_of rs) pushed ∙ map_push (λ (r : RawRow). row_of r) raws raw))
-    (one_read text line left after (map row_of raws) (row_of raw) so_far cut is)
+-- a row that has its place stays as it is where first rows are added
+row_kept : (first more : List RawRow) (r : AgainRow) → r.place < length first → row_again (sets_of (first ++ more)) r ≡ row_again (sets_of first) r
+row_kept first more r within =
+    let f : RawRow → Labels = λ (raw : RawRow). (row_of raw).labels in
+    let short : r.place < length (sets_of first) = omega (arith, within, length-map first f) in
+    ap (λ (l : Labels). made l)
+    (ap (λ (sets : List Labels). unwrap_or (slice_get sets r.place) []) (map-append f first more)
+    ∙ unwrap_or-slice_get (sets_of first ++ sets_of more) r.place []
+    ∙ get_or_append_left (sets_of first) (sets_of more) [] r.place short
+    ∙ sym (unwrap_or-slice_get (sets_of first) r.place []))
+  where
+    made : Labels → Row
+    made l = record { labels = l; time = r.time; value = r.value }
+
+rows_kept : (first more : List RawRow) (rows : List AgainRow) → All (HasPlace first) rows → map (row_again (sets_of (first ++ more))) rows ≡ map (row_again (sets_of first)) rows
+rows_kept first more [] within = refl
+rows_kept first more (r ∷ rows) within =
+    ap (λ (x : Row). x ∷ map (row_again (sets_of (first ++ more))) rows) (row_kept first more r (All-head (HasPlace first) r rows within))
+    ∙ ap (λ (rs : List Row). row_again (sets_of first) r ∷ rs) (rows_kept first more rows (All-tail (HasPlace first) r rows within))
+
+-- one row more is read and pushed, with the first rows that there are then
+pub row_pushed : {floats : Bool} (text line left after : List ℕ) (first firsts more : List RawRow) (rows all : List AgainRow) (row : AgainRow) → AreReadUpTo floats text (map (row_again (sets_of first)) rows) left → left ≡ (line ++ 10 ∷ []) ++ after → IsRowLine floats line (row_again (sets_of firsts) row)
+    → All (HasPlace first) rows → firsts ≡ first ++ more → all ≡ rows ++ row ∷ [] → AreReadUpTo floats text (map (row_again (sets_of firsts)) all) after
+row_pushed {floats} text line left after first firsts more rows all row so_far cut is within grown pushed =
+    let kept : map (row_again (sets_of firsts)) rows ≡ map (row_again (sets_of first)) rows = ap (λ (fs : List RawRow). map (row_again (sets_of fs)) rows) grown ∙ rows_kept first more rows within in
+    let whole : map (row_again (sets_of firsts)) all ≡ map (row_again (sets_of first)) rows ++ row_again (sets_of firsts) row ∷ [] =
+    ap (λ (rs : List AgainRow). map (row_again (sets_of firsts)) rs) pushed ∙ map_push (λ (r : AgainRow). row_again (sets_of firsts) r) rows row
+    ∙ ap (λ (rs : List Row). rs ++ row_again (sets_of firsts) row ∷ []) kept in
+    subst (λ (rs : List Row). AreReadUpTo floats text rs after) (sym whole) (one_read text line left after (map (row_again (sets_of first)) rows) (row_again (sets_of firsts) row) so_far cut is)
+
+-- each row has its place where first rows are added
+pub places_more : (first firsts more : List RawRow) (rows all : List AgainRow) (row : AgainRow) → All (HasPlace first) rows → firsts ≡ first ++ more → all ≡ rows ++ row ∷ [] → row.place < length firsts → All (HasPlace firsts) all
+places_more first firsts more rows all row within grown pushed here =
+    let long : length firsts ≡ length first + length more = ap length grown ∙ length-append first more in
+    subst (All (HasPlace firsts)) (sym pushed) (All-push (HasPlace firsts) rows row (λ k d lt. omega (arith, within k d lt, long)) here)
 
 -- ---- the whole text
 
@@ -124,5 +163,5 @@ second_ended (inl a) not_first = absurd (not_first a)
 second_ended (inr b) not_first = b
 
 -- the rows of the text that was read at a path, once they are prepared
-pub rows_at : {floats : Bool} (found : List ℕ → Found → Type 0) (path text : List ℕ) (raw : List RawRow) (rows : List Row) → found path (Bytes text) → AreRowsOf floats text (map row_of raw) → rows ≡ map row_of raw → AreRowsAt floats found path rows
-rows_at {floats} found path text raw rows there of is = (text, there, subst (AreRowsOf floats text) (sym is) of)
+pub rows_at : {floats : Bool} (found : List ℕ → Found → Type 0) (path text : List ℕ) (read rows : List Row) → found path (Bytes text) → AreRowsOf floats text read → rows ≡ read → AreRowsAt floats found path rows
+rows_at {floats} found path text read rows there of is = (text, there, subst (AreRowsOf floats text) (sym is) of)

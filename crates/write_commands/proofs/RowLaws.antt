@@ -1,18 +1,25 @@
--- Reading a row word by word.
-use Rattle.std.proofs.Common.{◌≡◌, ℕ, ◌<◌, ℤ, FitsSigned, Bool, true, false, cond, Option, Some, None, MatchOption, Vec, List, [], ◌∷◌, ◌++◌, map, take, drop, sym, ap, ◌∙◌, subst, append_assoc, append-nil, arith, lit<, Bor, w64}
-use Rattle.std.proofs.lemmas.Int.{to_z-of_z}
+-- Reading a row in its parts, and its labels word by word.
+use Rattle.std.proofs.Common.{◌≡◌, ℕ, ◌<◌, Bool, true, false, cond, Option, Some, None, MatchOption, Vec, List, [], ◌∷◌, ◌++◌, length, take, drop, refl, sym, ap, ◌∙◌, subst, append_assoc, append-nil, arith, lit<, Bor}
 use Rattle.std.proofs.lemmas.List.{flat_map_more, map_push, take-append-drop}
+use Rattle.std.proofs.lemmas.Option.{slice_get-map}
+use Rattle.std.proofs.lemmas.Slice.Zip.{AllZip-left}
 use Rattle.std.proofs.lemmas.Str.Pattern.{drop_at_char}
+use Rattle.std.specs.Option.{IsSomeAnd, option_map}
+use Rattle.std.specs.Prelude.{if◌then◌else◌, not, slice_get, unwrap_or}
+use Rattle.indexmap.proofs.SetLemmas.{AllZip-push}
+use Rattle.std.specs.Str.Pattern.{FindsChar, SplitsAroundMatch}
 use Rattle.std.specs.List.{flat_map}
 use Rattle.std.specs.declared.str.Split.{Split}
 use Rattle.std.specs.Str.Iter.{split_has_more, split_pattern, split_steps, split_text}
-use Rattle.std.specs.Str.Pattern.{FindsChar}
 use Rattle.write_commands.specs.RowTexts.{IsNumberText, IsRowLine, IsValueText, label_word}
 use Rattle.wal_record.specs.declared.labels.Label.{Label}
-use Rattle.wal_record.specs.Labels.{label}
-use Rattle.head_live.specs.Rows.{Row}
+use Rattle.wal_record.specs.Labels.{Labels, label}
+use Rattle.head_live.specs.declared.rows.AgainRow.{AgainRow}
+use Rattle.head_live.specs.declared.rows.RawRow.{RawRow}
+use Rattle.head_live.specs.Rows.{row_again, row_of}
+use Rattle.write_commands.specs.declared.rows.RowParts.{RowParts}
+use Rattle.write_commands.specs.RowParts.{ArePartsOf, AreSpelled, IsPlaced, SpellsLabels, labels_behind, labels_of, sets_of}
 use Rattle.answers.specs.Spellings.{pair_text}
-use mir.Val.{of_z, to_z}
 
 -- ---- the words of a line, which is cut at its spaces
 
@@ -47,80 +54,83 @@ word_joined s t word space step =
 pub none_left : (s t : Split ℕ) → split_steps FindsChar (λ a b. b ≡ a) s None t → left_of s ≡ []
 none_left s t step = ap (λ (b : Bool). cond b (32 ∷ split_text s) []) (sym step.0)
 
--- ---- the row that they spell
+-- two parts round the first space
+pub parted : (text before behind : List ℕ) → SplitsAroundMatch (FindsChar 32) text before behind → text ≡ before ++ 32 ∷ behind
+parted text before behind cut =
+    sym (take-append-drop cut.0 text)
+    ∙ ap (λ (t : List ℕ). take cut.0 text ++ t) (drop_at_char 32 text cut.0 cut.1 cut.2.1 (lit< tt))
+    ∙ ap (λ (t : List ℕ). t ++ 32 ∷ drop cut.1 text) (sym cut.3)
+    ∙ ap (λ (t : List ℕ). before ++ 32 ∷ t) (sym cut.4)
 
--- the labels of the pairs that were read
-abbrev pub labels_of : {A : Type 0} → List (Vec ℕ A × Vec ℕ A) → List Label
-labels_of pairs = map (λ p. label p.0.items p.1.items) pairs
+-- labels that are there stand behind a space
+pub behind_some : (text : List ℕ) → 0 < length text → labels_behind text ≡ 32 ∷ text
+behind_some [] h = absurd (omega (arith, h))
+behind_some (b ∷ text) h = refl
 
--- a time, a value and labels are read of the line
-pub record IsReadUpTo (floats : Bool) (line : List ℕ) (labels : List Label) (time value : ℤ) (left : List ℕ) : Type 0 where
-  pub time_text : List ℕ
-  pub value_text : List ℕ
-  pub whole : line ≡ time_text ++ (32 ∷ value_text ++ (flat_map label_word labels ++ left))
-  pub time_spelled : IsNumberText time_text time
-  pub value_spelled : IsValueText floats value_text value
+-- no labels, no text
+pub behind_none : (text : List ℕ) → length text ≡ 0 → labels_behind text ≡ []
+behind_none [] h = refl
+behind_none (b ∷ text) h = absurd (omega (arith, h))
 
--- the time and the value are the first two words
-numbers_first : {floats : Bool} (line first second behind left : List ℕ) (time value : ℤ) → line ≡ first ++ behind → behind ≡ 32 ∷ (second ++ left) → IsNumberText first time → IsValueText floats second value → IsReadUpTo floats line [] time value left
-numbers_first line first second behind left time value whole rest t v = record {
-  time_text = first;
-  value_text = second;
-  whole = whole ∙ ap (λ (u : List ℕ). first ++ u) rest;
-  time_spelled = t;
-  value_spelled = v;
-}
-
--- the words after the first two are left once those are numbers
-pub numbers_read : {floats : Bool} (line : List ℕ) (s t u : Split ℕ) (first : Option (Bor (List ℕ))) (second : Bor (List ℕ)) (time value : ℤ) → split_text s ≡ line → split_pattern s ≡ 32
-    → split_steps FindsChar (λ a b. b ≡ a) s first t → MatchOption first (Some time ≡ None) (λ word. IsNumberText word.now time)
-    → split_steps FindsChar (λ a b. b ≡ a) t (Some second) u → IsValueText floats second.now value
-    → IsReadUpTo floats line [] time value (left_of u) × (split_pattern u ≡ 32)
-numbers_read line s t u None second time value text space step is step₂ is₂ = absurd (cc)
-numbers_read line s t u (Some first) second time value text space step is step₂ is₂ =
-    let cut = word_joined s t first space step in
-    let cut₂ = word_joined t u second cut.2 step₂ in
-    (numbers_first line first.now second.now (left_of t) (left_of u) time value (sym text ∙ cut.0) cut₂.1 is is₂, cut₂.2)
-
--- no label is read yet, and the numbers are as the code passes them
-pub row_begins : {A : Type 0} {floats : Bool} (line : List ℕ) (s it : Split ℕ) (pairs : List (Vec ℕ A × Vec ℕ A)) (time value : ℤ) → IsReadUpTo floats line [] time value (left_of s) × (split_pattern s ≡ 32) → pairs ≡ [] → it ≡ s → FitsSigned w64 time → FitsSigned w64 value
-    → IsReadUpTo floats line (labels_of pairs) (to_z w64 (of_z w64 time)) (to_z w64 (of_z w64 value)) (left_of it) × (split_pattern it ≡ 32)
-row_begins {A} {floats} line s it pairs time value begun none same t v = (
-  subst (λ (w : Split ℕ). IsReadUpTo floats line (labels_of pairs) (to_z w64 (of_z w64 time)) (to_z w64 (of_z w64 value)) (left_of w)) (sym same)
-      (subst (λ (ps : List (Vec ℕ A × Vec ℕ A)). IsReadUpTo floats line (labels_of ps) (to_z w64 (of_z w64 time)) (to_z w64 (of_z w64 value)) (left_of s)) (sym none)
-      (subst (λ (n : ℤ). IsReadUpTo floats line [] n (to_z w64 (of_z w64 value)) (left_of s)) (sym (to_z-of_z w64 time t))
-      (subst (λ (n : ℤ). IsReadUpTo floats line [] time n (left_of s)) (sym (to_z-of_z w64 value v)) begun.0))),
-  ap (λ (w : Split ℕ). split_pattern w) same ∙ begun.1,
-)
-
--- one label more is read
-label_read : {floats : Bool} (line word left after : List ℕ) (labels : List Label) (l : Label) (time value : ℤ) → IsReadUpTo floats line labels time value left → left ≡ 32 ∷ (word ++ after) → word ≡ pair_text l.name l.value → IsReadUpTo floats line (labels ++ l ∷ []) time value after
-label_read line word left after labels l time value so_far rest is = record {
-  time_text = so_far.time_text;
-  value_text = so_far.value_text;
-  whole =
-      so_far.whole
-      ∙ ap (λ (u : List ℕ). so_far.time_text ++ (32 ∷ so_far.value_text ++ u)) (
-      ap (λ (u : List ℕ). flat_map label_word labels ++ u) (rest ∙ ap (λ (u : List ℕ). 32 ∷ (u ++ after)) is)
-      ∙ sym (append_assoc (flat_map label_word labels) (label_word l) after)
-      ∙ ap (λ (u : List ℕ). u ++ after) (flat_map_more label_word [] labels l));
-  time_spelled = so_far.time_spelled;
-  value_spelled = so_far.value_spelled;
-}
+-- ---- the labels that words spell
 
 -- one pair more is read and pushed
-pub pair_read : {A : Type 0} {floats : Bool} (line word left after : List ℕ) (pairs more : List (Vec ℕ A × Vec ℕ A)) (p : Vec ℕ A × Vec ℕ A) (time value : ℤ) → IsReadUpTo floats line (labels_of pairs) time value left → left ≡ 32 ∷ (word ++ after) → word ≡ pair_text p.0.items p.1.items → more ≡ pairs ++ p ∷ [] → IsReadUpTo floats line (labels_of more) time value after
-pair_read {A} {floats} line word left after pairs more p time value so_far rest is pushed =
-    subst (λ (labels : List Label). IsReadUpTo floats line labels time value after)
-    (sym (ap (λ (ps : List (Vec ℕ A × Vec ℕ A)). labels_of ps) pushed ∙ map_push (λ (q : Vec ℕ A × Vec ℕ A). label q.0.items q.1.items) pairs p))
-    (label_read line word left after (labels_of pairs) (label p.0.items p.1.items) time value so_far rest is)
+pub pair_read : {A : Type 0} (text word left after : List ℕ) (pairs more : List (Vec ℕ A × Vec ℕ A)) (p : Vec ℕ A × Vec ℕ A) → text ≡ flat_map label_word (labels_of pairs) ++ left → left ≡ 32 ∷ (word ++ after) → word ≡ pair_text p.0.items p.1.items → more ≡ pairs ++ p ∷ []
+    → text ≡ flat_map label_word (labels_of more) ++ after
+pair_read {A} text word left after pairs more p so_far rest is pushed =
+    let l : Label = label p.0.items p.1.items in
+    let made : labels_of more ≡ labels_of pairs ++ l ∷ [] = ap (λ (ps : List (Vec ℕ A × Vec ℕ A)). labels_of ps) pushed ∙ map_push (λ (q : Vec ℕ A × Vec ℕ A). label q.0.items q.1.items) pairs p in
+    so_far
+    ∙ ap (λ (u : List ℕ). flat_map label_word (labels_of pairs) ++ u) (rest ∙ ap (λ (u : List ℕ). 32 ∷ (u ++ after)) is)
+    ∙ sym (append_assoc (flat_map label_word (labels_of pairs)) (label_word l) after)
+    ∙ ap (λ (u : List ℕ). u ++ after) (flat_map_more label_word [] (labels_of pairs) l)
+    ∙ ap (λ (ls : List Label). flat_map label_word ls ++ after) (sym made)
 
--- the whole line is read
-pub row_read : {floats : Bool} (line left : List ℕ) (row : Row) → IsReadUpTo floats line row.labels row.time row.value left → left ≡ [] → IsRowLine floats line row
-row_read line left row so_far none = record {
-  time_text = so_far.time_text;
-  value_text = so_far.value_text;
-  whole = so_far.whole ∙ ap (λ (u : List ℕ). so_far.time_text ++ (32 ∷ so_far.value_text ++ u)) (ap (λ (u : List ℕ). flat_map label_word row.labels ++ u) none ∙ append-nil (flat_map label_word row.labels));
-  time_spelled = so_far.time_spelled;
-  value_spelled = so_far.value_spelled;
+-- ---- the row, whose labels have their place
+
+-- the labels in a place
+labels_in : (first : List RawRow) (place : ℕ) (raw : RawRow) → slice_get first place ≡ Some raw → unwrap_or (slice_get (sets_of first) place) [] ≡ (row_of raw).labels
+labels_in first place raw here =
+    let f : RawRow → Labels = λ (r : RawRow). (row_of r).labels in
+    ap (λ (o : Option Labels). unwrap_or o []) (slice_get-map f first place ∙ ap (option_map f) here)
+
+-- the row of a line
+pub row_in : {floats : Bool} (line : List ℕ) (parts : RowParts) (first : List RawRow) (row : AgainRow) → ArePartsOf floats line parts → IsPlaced parts.labels.now first row.place → row.time ≡ parts.time → row.value ≡ parts.value → IsRowLine floats line (row_again (sets_of first) row)
+row_in {floats} line parts first row are placed time value = record {
+  time_text = are.time_text;
+  value_text = are.value_text;
+  whole = are.whole ∙ ap (λ (u : List ℕ). are.time_text ++ (32 ∷ are.value_text ++ u)) (placed.spelled ∙ ap (λ (ls : List Label). flat_map label_word ls) (sym (labels_in first row.place placed.raw placed.here)));
+  time_spelled = subst (IsNumberText are.time_text) (sym time) are.time_spelled;
+  value_spelled = subst (IsValueText floats are.value_text) (sym value) are.value_spelled;
 }
+
+-- the text of the labels in a place
+pub placed_at : (texts : List (Bor (List ℕ))) (first : List RawRow) (place : ℕ) (text : List ℕ) (found : Bor (List ℕ)) → AreSpelled texts first → slice_get texts place ≡ Some found → text ≡ found.now → IsPlaced text first place
+placed_at texts first place text found spelled here same = by (slice_get first place) refl (subst (λ o. MatchOption o (Unit {0}) (λ t. IsSomeAnd (slice_get first place) (Spelled t))) here (AllZip-left Spelled texts first spelled place))
+  where
+    Spelled : Bor (List ℕ) → RawRow → Type 0
+    Spelled t raw = SpellsLabels t.now (row_of raw).labels
+
+    by : (o : Option RawRow) → slice_get first place ≡ o → IsSomeAnd o (Spelled found) → IsPlaced text first place
+    by None is some = absurd some
+    by (Some raw) is some = record { raw = raw; here = is; spelled = ap labels_behind same ∙ some }
+
+-- ---- texts of labels that are kept
+
+not_true : (b : Bool) → true ≡ not b → b ≡ false
+not_true true e = cc
+not_true false e = refl
+
+not_false : (b : Bool) → false ≡ not b → b ≡ true
+not_false true e = refl
+not_false false e = cc
+
+-- a new text, with the first row that has it
+pub spelled_more : (texts now : List (Bor (List ℕ))) (text : Bor (List ℕ)) (b : Bool) (first more : List RawRow) (raw : RawRow) → now ≡ (if b then texts else texts ++ text ∷ []) → true ≡ not b → AreSpelled texts first → SpellsLabels text.now (row_of raw).labels → more ≡ first ++ raw ∷ [] → AreSpelled now more
+spelled_more texts now text b first more raw keys new before here pushed =
+    let are : now ≡ texts ++ text ∷ [] = keys ∙ ap (λ c. if c then texts else texts ++ text ∷ []) (not_true b new) in
+    subst (λ ts. AreSpelled ts more) (sym are) (subst (AreSpelled (texts ++ text ∷ [])) (sym pushed) (AllZip-push (λ (t : Bor (List ℕ)) r. SpellsLabels t.now (row_of r).labels) texts first text raw before here))
+
+-- a text that was there
+pub texts_stay : (texts now : List (Bor (List ℕ))) (text : Bor (List ℕ)) (b : Bool) → now ≡ (if b then texts else texts ++ text ∷ []) → false ≡ not b → now ≡ texts
+texts_stay texts now text b keys old = keys ∙ ap (λ c. if c then texts else texts ++ text ∷ []) (not_false b old)

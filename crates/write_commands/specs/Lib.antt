@@ -3,5 +3,6 @@ pub mod Checkpoints
 pub mod CheckpointTexts
 pub mod Crashes
 pub mod Logs
+pub mod RowParts
 pub mod RowTexts
 pub mod Segments

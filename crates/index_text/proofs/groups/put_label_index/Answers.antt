@@ -18,9 +18,9 @@ returns-in_err-four_bytes_of-clause-large c e =
     let values : List (List ℕ) = map (λ (l : LentLabel). l.value.now) c.args.labels.now in
     omega (arith, many, length-label_index_body (nows c.args.table.now) (map (λ (l : LentLabel). l.value.now) c.args.labels.now), length-map c.args.labels.now (λ (l : LentLabel). l.value.now))
 
-pub overflow_cast-rank_of : goal.overflow_cast-rank_of
-overflow_cast-rank_of c =
-    let low : c.rank_of.result ≤ length (nows c.args.table.now) = subst (λ r. r ≤ length (nows c.args.table.now)) (sym c.rank_of.ensures) (rank-le text_cmp _ (nows c.args.table.now)) in
+pub overflow_cast-rank : goal.overflow_cast-rank
+overflow_cast-rank c =
+    let low : c.rank_near-rank.result ≤ length (nows c.args.table.now) = subst (λ r. r ≤ length (nows c.args.table.now)) (sym c.rank_near-rank.ensures) (rank-le text_cmp _ (nows c.args.table.now)) in
     omega (arith, low, c.requires.small, length-map c.args.table.now (λ t. t.now))
 
 body_is : (table values values' : List (List ℕ)) (n : ℕ) → values' ≡ values → n ≡ length values → big_bytes 4 1 ++ big_bytes 4 n ++ flat_map (λ v. big_bytes 4 (rank text_cmp v table)) values' ≡ label_index_body table values
