@@ -1,4 +1,4 @@
-//! Tests of the program's commands over a store in memory of which a call can fail, over one that notes its calls, over a list of files, of the store of real files, of what a terminal is reported, of texts that are printed in pieces, of bytes that are written in pieces, of the blocks in a data directory,
+//! Tests of the program's commands over a store in memory of which a call can fail, over one that notes its calls, over a list of files, of the store of real files, of what a terminal is reported, of a log that grows, of texts that are printed in pieces, of bytes that are written in pieces, of the blocks in a data directory,
 //! and of how a command line says that a log is to be replayed. What whole runs print and leave is in examples/cases.
 #![tactic(auto)]
 
@@ -14,6 +14,8 @@ mod failing;
 mod folders;
 #[cfg(test)]
 mod fragments;
+#[cfg(test)]
+mod growing;
 #[cfg(test)]
 mod least;
 mod listed;

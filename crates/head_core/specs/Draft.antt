@@ -1,12 +1,12 @@
 -- The state of `Head::reserve`, for which room was made so far: words of proofs and of private functions, which no public contract cites.
-use Rattle.std.specs.Prelude.{◌≡◌, ℕ, ◌<◌, ◌≤◌, List, [], ◌∷◌, ◌++◌, Option, Some, All, length, count_by, nat_eq, unwrap_or}
+use Rattle.std.specs.Prelude.{◌≡◌, ℕ, ◌<◌, ◌≤◌, List, [], ◌∷◌, ◌++◌, Option, None, Some, All, length, count_by, nat_eq, unwrap_or}
 use Rattle.std.specs.Map.{lookup}
 use Rattle.hw_bytes.specs.Lists.{or_else}
 use Rattle.wal_record.specs.Labels.{same_labels}
 use Rattle.wal_record.specs.Entries.{Entry, series, sample, stone}
 use Rattle.head_column.specs.Histories.{ColumnValue, no_history}
 use Rattle.head_series.specs.Texts.{place}
-use Rattle.head_series.specs.Table.{Labels, slot_at, with_series}
+use Rattle.head_series.specs.Table.{Labels, Table, slot_at, with_series}
 use Rattle.head_series.specs.Room as table_room
 use Rattle.head_postings.specs.Room as postings_room
 use Rattle.head_resolver.specs.Owners.{bindings}
@@ -24,13 +24,27 @@ pub record Drafted : Type 0 where
   pub slots : List (ℕ × ℕ)
   pub counts : List (ℕ × ℕ)
 
+-- the label sets of a table, if there is one
+abbrev pub series_in : Option Table → List Labels
+series_in None = []
+series_in (Some table) = table.series
+
 -- the slot that a reference will have: the one that it is to be bound to, or else the one that it has
 abbrev pub slot_after : Drafted → (ℕ → Option ℕ) → ℕ → Option ℕ
 slot_after d at r = or_else (lookup (nat_eq r) d.slots) (at r)
 
+-- the number at a slot
+abbrev pub count_in : List (ℕ × ℕ) → ℕ → ℕ
+count_in counts s = unwrap_or (lookup (nat_eq s) counts) 0
+
+-- the first entry, if there is one, with the others
+abbrev pub first_and : Option (ℕ × ℕ) → List (ℕ × ℕ) → List (ℕ × ℕ)
+first_and None others = others
+first_and (Some first) others = first ∷ others
+
 -- the number of items of a slot
 abbrev pub many_at : Drafted → ℕ → ℕ
-many_at d s = unwrap_or (lookup (nat_eq s) d.counts) 0
+many_at d s = count_in d.counts s
 
 -- the slots of references after the entries
 abbrev pub slots_behind : List Labels → (ℕ → Option ℕ) → List Entry → ℕ → Option ℕ

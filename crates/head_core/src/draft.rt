@@ -1,20 +1,21 @@
 //! The state of `Head::reserve`: the records that room was made for so far.
 
-ghost use Rattle.std.specs.Prelude.{◌≡◌, ◌+◌, ◌<◌, ◌≤◌, ◌==◌, ◌++◌, ◌∷◌, [], ℕ, List, Some, length, map, nat_eq, if◌then◌else◌, IfOk, IfSome, OnOk};
+ghost use Rattle.std.specs.Prelude.{◌≡◌, ◌+◌, ◌<◌, ◌≤◌, ◌==◌, ◌++◌, ◌∷◌, [], ℕ, List, Some, length, map, nat_eq, not, if◌then◌else◌, IfOk, IfSome, OnOk};
 ghost use Rattle.std.specs.Map.{lookup};
 ghost use Rattle.wal_record.specs.Labels.{same_labels};
 ghost use Rattle.wal_record.specs.Entries.{Entry, series};
-ghost use Rattle.head_series.specs.Table.{slot_at, with_series};
+ghost use Rattle.head_series.specs.Table.{has_series, slot_at, with_series};
 ghost use Rattle.head_series.specs.Texts.{place};
-ghost use Rattle.head_core.specs.Draft.{many_at, slot_after, AreWider, HaveColumns, IsDraft, IsLonger, IsNoted};
+ghost use Rattle.head_core.specs.Draft.{many_at, slot_after, AreWider, HaveColumns, IsDraft, IsLonger, IsNoted, series_in};
 ghost use Rattle.head_core.specs.Heads.{HeadValue};
 ghost use Rattle.head_core.specs.Room.{spare_at};
 
 use crate::reserved::Reserved;
+use crate::slot_counts::SlotCounts;
 use hash_seed::HashSeed;
 use head_column::Column;
 use head_postings::{Postings, PostingsBatch};
-use head_series::{Plan, Ready, SeriesTable, Slot};
+use head_series::{Bound, Plan, Ready, SeriesTable, Slot};
 use indexmap::IndexMap;
 use std::alloc::{AllocError, Global};
 use std::collections::VecDeque;
@@ -29,9 +30,10 @@ pub(crate) struct RoomDraft {
     pub(crate) batch: PostingsBatch,
     pub(crate) ready: VecDeque<Ready>,
     pub(crate) columns: VecDeque<Column>,
-    series: SeriesTable,
+    // made for the first new series
+    series: Option<SeriesTable>,
     slots: IndexMap<u64, u32, HashSeed>,
-    counts: IndexMap<u32, usize, HashSeed>,
+    counts: SlotCounts,
 }
 
 // Written out so that the proof of a function that drops a draft has one call, and not a copy of this.
@@ -50,7 +52,7 @@ impl Drop for RoomDraft {
 }
 
 impl Model for RoomDraft {
-    ghost use Rattle.head_core.specs.Draft.{Drafted};
+    ghost use Rattle.head_core.specs.Draft.{Drafted, series_in};
 
     ghost Value = { Drafted };
 
@@ -58,10 +60,33 @@ impl Model for RoomDraft {
       plan = d.plan;
       batch = d.batch;
       made = record { ready = d.ready.items; columns = d.columns.items };
-      series = d.series.series;
+      series = series_in d.series;
       slots = d.slots.entries;
-      counts = d.counts.entries;
+      counts = d.counts;
     } };
+}
+
+// Adds a label set to a table, which is made if there is none.
+fn bind_new(
+    alloc: Global,
+    series: &mut Option<SeriesTable>,
+    seed: HashSeed,
+    labels: &LabelSet,
+) -> Result<Bound, AllocError>
+    ensures series { OnOk result (series_in series.new ≡ with_series (series_in series.old) labels.now) }
+    ensures slot { IfOk result (λ bound. place (same_labels labels.now) (series_in series.new) ≡ Some bound.slot) }
+    ensures created { IfOk result (λ bound. bound.created ≡ not (has_series (series_in series.old) labels.now)) }
+{
+    if series.is_none() {
+        *series = Some(SeriesTable::with_seed(alloc, seed, u32::MAX));
+    }
+    let Some(table) = series else {
+        return Err(AllocError);
+    };
+    match table.bind(0, labels) {
+        Ok(bound) => Ok(bound),
+        Err(_) => Err(AllocError),
+    }
 }
 
 impl RoomDraft {
@@ -75,9 +100,9 @@ impl RoomDraft {
             batch: postings.batch(),
             ready: VecDeque::new(alloc),
             columns: VecDeque::new(alloc),
-            series: SeriesTable::with_seed(alloc, seed, u32::MAX),
+            series: None,
             slots: IndexMap::with_hasher(alloc, seed),
-            counts: IndexMap::with_hasher(alloc, seed),
+            counts: SlotCounts::new(alloc, seed),
         }
     }
 
@@ -121,9 +146,8 @@ impl RoomDraft {
         ensures longer { IsLonger self.old.made.columns self.new.made.columns }
     {
         self.columns.reserve(1)?;
-        let Ok(bound) = self.series.bind(0, labels) else {
-            return Err(AllocError);
-        };
+        let alloc = *self.columns.allocator();
+        let bound = bind_new(alloc, &mut self.series, table.seed(), labels)?;
         if bound.created {
             let column = Column::new(*self.columns.allocator());
             self.columns.push_back_reserved(column);
@@ -152,10 +176,7 @@ impl RoomDraft {
         ensures many { IfOk result (λ many. many ≡ many_at self.old slot + 1) }
         ensures counts { IfOk result (λ many. (s : ℕ) → many_at self.new s ≡ (if slot == s then many else many_at self.old s)) }
     {
-        let count = self.counts.entry(slot.index() as u32)?.or_insert(0);
-        let many = count.checked_add(1).ok_or(AllocError)?;
-        *count = many;
-        Ok(many)
+        self.counts.add(slot.index() as u32)
     }
 
     // Makes room for this many items in a column, if it exists.

@@ -12,6 +12,7 @@ mod laws;
 mod postings;
 mod reserved;
 mod reserving;
+mod slot_counts;
 mod views;
 
 pub use head::{Head, later_of};

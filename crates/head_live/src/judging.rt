@@ -22,9 +22,9 @@ use std::alloc::{AllocError, Global};
 use std::sync::Arc;
 use wal_record::{LabelSet, SampleEntry, SeriesEntry};
 
-// The state of a label set between two rows: its reference and its greatest time, if it has any.
+/// The state of a label set between two rows: its reference and its greatest time, if it has any.
 #[derive(Clone, Copy, Debug)]
-struct Standing {
+pub struct Standing {
     reference: Option<u64>,
     last: Option<i64>,
 }
@@ -60,26 +60,27 @@ fn standing_of(head: &Head, known: &mut KnownSets, labels: &Arc<LabelSet, Global
     }
 }
 
-// Looks the label sets with these numbers up in the head.
-fn standings(
-    alloc: Global,
+// Looks the label sets with these numbers up in the head. The list has room from earlier calls.
+fn fill_standings(
+    standings: &mut Vec<Standing>,
     head: &Head,
     known: &mut KnownSets,
     sets: &[SetKey],
     numbers: &[usize],
-) -> Result<Vec<Standing>, AllocError>
+) -> Result<(), AllocError>
     requires sound { head.now.failed ≡ false }
     requires distinct { AreDistinct same_labels head.now.content.table.series }
     requires known { Knows known.old head.now.content.table.series }
     requires numbers { All (λ number. number < length sets.now) numbers.now }
-    ensures standings { IfOk result (λ standings. AreStarts head.now.content (sets_in (labels_of_keys sets.now) numbers.now) standings.items) }
+    ensures standings { OnOk result (AreStarts head.now.content (sets_in (labels_of_keys sets.now) numbers.now) standings.new.items) }
     ensures known { Knows known.new head.now.content.table.series }
 {
-    let mut standings = Vec::with_capacity(alloc, numbers.len())?;
+    standings.clear();
+    standings.reserve(numbers.len())?;
     for number in numbers {
         standings.push(standing_of(head, known, &sets[*number].labels))?;
     }
-    Ok(standings)
+    Ok(())
 }
 
 // Returns the next reference, if there is one, and advances it. There is none past 2^64 - 1.
@@ -166,11 +167,12 @@ impl Judged {
 }
 
 /// Judges rows in order, each against the head and the accepted rows before it. Rows before the least valid time are expired. Returns
-/// `RefsSpent` if a new label set would need a reference past 2^64 - 1, and `Memory` if out of memory.
+/// `RefsSpent` if a new label set would need a reference past 2^64 - 1, and `Memory` if out of memory. What is in `standings` does not matter.
 pub fn judge(
     alloc: Global,
     head: &Head,
     known: &mut KnownSets,
+    standings: &mut Vec<Standing>,
     rows: &Prepared,
 ) -> Result<Judged, AppendFault>
     requires sound { head.now.failed ≡ false }
@@ -185,7 +187,7 @@ pub fn judge(
     head.series();
     let sets = rows.sets.as_slice();
     let numbers = rows.in_use.numbers();
-    let mut standings = standings(alloc, head, known, sets, numbers)?;
+    fill_standings(standings, head, known, sets, numbers)?;
     let min_valid = head.min_valid();
     let mut next = head.next_reference();
     let mut judged = Judged {

@@ -102,18 +102,22 @@ latest_synced false names file is = is
 
 -- ---- what is read after a crash
 
--- a file of which all bytes are on the device
-abbrev pub whole : List ℕ → Content
-whole bytes = record { bytes = bytes; synced = true }
+-- a file of which all bytes are on the device, with what there was of it at its last sync
+abbrev pub on_device : List ℕ → Option (List ℕ) → Content
+on_device bytes kept = record { bytes = bytes; synced = true; kept = kept }
 
-pub read_synced : (content : File → Content) (file : File) (bytes : List ℕ) (left : Option (List ℕ)) → content file ≡ whole bytes → MayRead content (Some file) left → left ≡ Some bytes
-read_synced content file bytes left is (read, gives, synced) = gives ∙ ap (λ r. Some r) (synced (ap (λ c. c.synced) is) ∙ ap (λ c. c.bytes) is)
+-- a file of which all bytes are synced
+abbrev pub whole : List ℕ → Content
+whole bytes = on_device bytes (Some bytes)
+
+pub read_synced : (content : File → Content) (file : File) (bytes : List ℕ) (kept : Option (List ℕ)) (left : Option (List ℕ)) → content file ≡ on_device bytes kept → MayRead content (Some file) left → left ≡ Some bytes
+read_synced content file bytes kept left is (read, gives, synced, first) = gives ∙ ap (λ r. Some r) (synced (ap (λ c. c.synced) is) ∙ ap (λ c. c.bytes) is)
 
 -- a file of before
 pub read_old : (content : File → Content) (other : List ℕ) (file : Option (List ℕ)) (left : Option (List ℕ)) → content (Old other) ≡ whole (unwrap_or file [])
     → MayRead content (option_map (λ _. Old other) file) left → left ≡ file
 read_old content other None left is read = read
-read_old content other (Some old) left is read = read_synced content (Old other) old left is read
+read_old content other (Some old) left is read = read_synced content (Old other) old (Some old) left is read
 
 pub read_among : (content : File → Content) (names : List (Option File)) (one file : Option File) (left : Option (List ℕ)) → names ≡ one ∷ [] → IsAmong names file → MayRead content file left → MayRead content one left
 read_among content names one file left is among read = among_has (λ f. MayRead content f left → MayRead content one left) names file among (subst (AllByRecursion (λ f. MayRead content f left → MayRead content one left)) (sym is) ((λ r. r), tt)) read

@@ -1,10 +1,10 @@
 -- The order in which the unfinished file is renamed before it is synced: a crash may leave any bytes at the path.
-use Rattle.std.specs.Prelude.{ℕ, ◌≡◌, ◌≢◌, ◌⊎◌, Bool, true, false, if◌then◌else◌, List, [], ◌∷◌, ◌++◌, length, Option, Some, None, bytes_eq, refl}
+use Rattle.std.specs.Prelude.{ℕ, ◌≡◌, ◌≢◌, ◌⊎◌, Bool, true, false, if◌then◌else◌, List, [], ◌∷◌, ◌++◌, length, Option, Some, None, IfSome, bytes_eq, refl}
 use Rattle.std.proofs.Common.{inl, inr, ap, subst, sym, ◌∙◌, arith, suc}
 use Rattle.std.proofs.lemmas.Bool.{false≢true, true≢false, cases_Bool}
 use Rattle.std.proofs.lemmas.Slice.Eq.{bytes_eq-Decides}
 use Rattle.store.specs.Calls.{Call, Create, Write, Rename}
-use Rattle.store.specs.Disk.{CanTakeAll, Content, File, IsAmong, MayRead, New, after_all, changed, disk_of, given, latest, led}
+use Rattle.store.specs.Disk.{CanTakeAll, Content, File, IsAmong, IsBetween, MayRead, New, after_all, changed, disk_of, given, latest, led}
 use Rattle.new_files.specs.Crashes.{AfterCrash}
 use Rattle.new_files.specs.Files.{LeavesOldOrFile}
 use Rattle.new_files.proofs.Disks.{changed_here, given_here, led_elsewhere, led_here}
@@ -64,14 +64,20 @@ module _ (path unfinished bytes : List ℕ) (differ : path ≢ unfinished) where
   leads = led_here created path (latest (created unfinished)) ∙ ap (λ f. latest f ∷ created path) (led_here claimed unfinished (Some (New unfinished)))
 
   not_synced : (content (New unfinished)).synced ≡ false
-  not_synced = let made = given (given (disk_of no_files).content path (record { bytes = []; synced = true })) unfinished (record { bytes = []; synced = true }) in
-      ap (λ c. c.synced) (given_here made unfinished (record { bytes = (made (New unfinished)).bytes ++ bytes; synced = false }))
+  not_synced = let made = given (given (disk_of no_files).content path (record { bytes = []; synced = true; kept = None })) unfinished (record { bytes = []; synced = true; kept = None }) in
+      ap (λ c. c.synced) (given_here made unfinished (record { bytes = (made (New unfinished)).bytes ++ bytes; synced = false; kept = (made (New unfinished)).kept }))
+
+  none_kept : (content (New unfinished)).kept ≡ None
+  none_kept = let claims = given (disk_of no_files).content path (record { bytes = []; synced = true; kept = None }) in
+      let made = given claims unfinished (record { bytes = []; synced = true; kept = None }) in
+      ap (λ c. c.kept) (given_here made unfinished (record { bytes = (made (New unfinished)).bytes ++ bytes; synced = false; kept = (made (New unfinished)).kept }))
+      ∙ ap (λ c. c.kept) (given_here claims unfinished (record { bytes = []; synced = true; kept = None }))
 
   at_the_path : (file : Option File) × IsAmong (led moved unfinished None path) file × MayRead content file (left path)
   at_the_path = (
     Some (New unfinished),
     subst (λ files. IsAmong files (Some (New unfinished))) (sym (led_elsewhere moved unfinished path None (λ is. differ (sym is)) ∙ leads)) (inl refl),
-    (1 ∷ bytes, changed_here no_files path (Some (1 ∷ bytes)), (λ synced. absurd (false≢true (sym not_synced ∙ synced)))),
+    (1 ∷ bytes, changed_here no_files path (Some (1 ∷ bytes)), (λ synced. absurd (false≢true (sym not_synced ∙ synced))), subst (λ kept. IfSome kept (λ first. IsBetween first (1 ∷ bytes) (content (New unfinished)).bytes)) (sym none_kept) tt),
   )
 
   absent : (other : List ℕ) → bytes_eq path other ≡ false → left other ≡ None

@@ -9,7 +9,7 @@ use Rattle.store.specs.Disk.{CanTake, CanTakeAll, Disk, File, IsAmong, MayLeave,
 use Rattle.new_files.specs.Files.{file_calls}
 use Rattle.new_files.specs.Folders.{AreInside, FileAt, IsWholeFolder, LeavesFolder, LeavesOld, LeavesOldOrFolder, changed_paths, create_dirs, files_calls, is_inside, new_folder, sync_dirs, unfinished_folder}
 use Rattle.new_files.specs.Orders.{AreAll, AreFirst, IsRemoval}
-use Rattle.new_files.proofs.Disks.{Keeps, after_both, all_then, all_weaker, among_has, can_take_both, first_keep, given_elsewhere, given_here, latest_synced, led_elsewhere, led_here, not_there, olds_kept, read_among, read_old, read_synced, run_keep, synced_one, whole}
+use Rattle.new_files.proofs.Disks.{Keeps, after_both, all_then, all_weaker, among_has, can_take_both, first_keep, given_elsewhere, given_here, latest_synced, led_elsewhere, led_here, not_there, olds_kept, on_device, read_among, read_old, read_synced, run_keep, synced_one, whole}
 use Rattle.new_files.proofs.Orders.{AreBehind, are_first_of_more, exactly, first_apart}
 use Rattle.new_files.proofs.Paths.{in_longer, inside_longer, longer_differs}
 
@@ -18,7 +18,8 @@ use Rattle.new_files.proofs.Paths.{in_longer, inside_longer, longer_differs}
 -- The path leads to the file that was created at it, and this has these bytes, all on the device.
 record IsMade (path bytes : List ℕ) (disk : Disk) : Type 0 where
   leads : latest (disk.names path) ≡ Some (New path)
-  synced : disk.content (New path) ≡ whole bytes
+  kept : Option (List ℕ)
+  synced : disk.content (New path) ≡ on_device bytes kept
 
 is_there : Option File → Bool
 is_there None = false
@@ -30,30 +31,32 @@ unfolding is_there
 not_made disk path bytes other is none same = true≢false (sym (ap is_there is.leads) ∙ ap (λ p. is_there (latest (disk.names p))) (sym same) ∙ ap is_there none)
 
 made_dir : (disk : Disk) (path : List ℕ) → IsMade path [] (after disk (CreateDir path))
-made_dir disk path = record { leads = ap latest (led_here disk.names path (Some (New path))); synced = given_here disk.content path no_bytes }
+made_dir disk path = record { leads = ap latest (led_here disk.names path (Some (New path))); kept = None; synced = given_here disk.content path no_bytes }
 
 made_file : (disk : Disk) (path bytes : List ℕ) → IsMade path bytes (after_all disk (file_calls path bytes))
 made_file disk path bytes = record {
   leads = ap latest (led_here disk.names path (Some (New path)));
+  kept = Some bytes;
   synced = let made = given disk.content path no_bytes in
-      let put = given made path (record { bytes = (made (New path)).bytes ++ bytes; synced = false }) in
+      let put = given made path (record { bytes = (made (New path)).bytes ++ bytes; synced = false; kept = (made (New path)).kept }) in
       given_here put path (whole (put (New path)).bytes)
-      ∙ ap (λ c. whole c.bytes) (given_here made path (record { bytes = (made (New path)).bytes ++ bytes; synced = false }))
+      ∙ ap (λ c. whole c.bytes) (given_here made path (record { bytes = (made (New path)).bytes ++ bytes; synced = false; kept = (made (New path)).kept }))
       ∙ ap (λ c. whole (c.bytes ++ bytes)) (given_here disk.content path no_bytes);
 }
 
 -- another directory or file leaves it so
 past_dir : (disk : Disk) (path bytes other : List ℕ) → CanTake disk (CreateDir other) → IsMade path bytes disk → IsMade path bytes (after disk (CreateDir other))
 past_dir disk path bytes other can is = let differ = not_made disk path bytes other is can in
-    record { leads = ap latest (led_elsewhere disk.names other path (Some (New other)) differ) ∙ is.leads; synced = given_elsewhere disk.content other path no_bytes differ ∙ is.synced }
+    record { leads = ap latest (led_elsewhere disk.names other path (Some (New other)) differ) ∙ is.leads; kept = is.kept; synced = given_elsewhere disk.content other path no_bytes differ ∙ is.synced }
 
 past_file : (disk : Disk) (path bytes other more : List ℕ) → CanTakeAll disk (file_calls other more) → IsMade path bytes disk → IsMade path bytes (after_all disk (file_calls other more))
 past_file disk path bytes other more can is = let differ = not_made disk path bytes other is can.0 in record {
   leads = ap latest (led_elsewhere disk.names other path (Some (New other)) differ) ∙ is.leads;
+  kept = is.kept;
   synced = let made = given disk.content other no_bytes in
-      let put = given made other (record { bytes = (made (New other)).bytes ++ more; synced = false }) in
+      let put = given made other (record { bytes = (made (New other)).bytes ++ more; synced = false; kept = (made (New other)).kept }) in
       given_elsewhere put other path (whole (put (New other)).bytes) differ
-      ∙ given_elsewhere made other path (record { bytes = (made (New other)).bytes ++ more; synced = false }) differ
+      ∙ given_elsewhere made other path (record { bytes = (made (New other)).bytes ++ more; synced = false; kept = (made (New other)).kept }) differ
       ∙ given_elsewhere disk.content other path no_bytes differ
       ∙ is.synced;
 }
@@ -86,24 +89,25 @@ files_made (file ∷ files) disk can = (
 -- The path leads to the file that was created at it, after a crash too.
 record IsSettled (path bytes : List ℕ) (disk : Disk) : Type 0 where
   leads : disk.names path ≡ Some (New path) ∷ []
-  synced : disk.content (New path) ≡ whole bytes
+  kept : Option (List ℕ)
+  synced : disk.content (New path) ≡ on_device bytes kept
 
 made_past_sync : (disk : Disk) (dir path bytes : List ℕ) → IsMade path bytes disk → IsMade path bytes (after disk (SyncDir dir))
-made_past_sync disk dir path bytes is = record { leads = latest_synced (is_in dir path) (disk.names path) (Some (New path)) is.leads; synced = is.synced }
+made_past_sync disk dir path bytes is = record { leads = latest_synced (is_in dir path) (disk.names path) (Some (New path)) is.leads; kept = is.kept; synced = is.synced }
 
 made_past_syncs : (dirs : List (List ℕ)) (disk : Disk) (path bytes : List ℕ) → IsMade path bytes disk → IsMade path bytes (after_all disk (sync_dirs dirs))
 made_past_syncs [] disk path bytes is = is
 made_past_syncs (dir ∷ dirs) disk path bytes is = made_past_syncs dirs (after disk (SyncDir dir)) path bytes (made_past_sync disk dir path bytes is)
 
 settled_past_sync : (disk : Disk) (dir path bytes : List ℕ) → IsSettled path bytes disk → IsSettled path bytes (after disk (SyncDir dir))
-settled_past_sync disk dir path bytes is = record { leads = synced_one (is_in dir path) (disk.names path) (Some (New path)) is.leads; synced = is.synced }
+settled_past_sync disk dir path bytes is = record { leads = synced_one (is_in dir path) (disk.names path) (Some (New path)) is.leads; kept = is.kept; synced = is.synced }
 
 settled_past_syncs : (dirs : List (List ℕ)) (disk : Disk) (path bytes : List ℕ) → IsSettled path bytes disk → IsSettled path bytes (after_all disk (sync_dirs dirs))
 settled_past_syncs [] disk path bytes is = is
 settled_past_syncs (dir ∷ dirs) disk path bytes is = settled_past_syncs dirs (after disk (SyncDir dir)) path bytes (settled_past_sync disk dir path bytes is)
 
 settled_by_sync : (disk : Disk) (dir path bytes : List ℕ) → is_in dir path ≡ true → IsMade path bytes disk → IsSettled path bytes (after disk (SyncDir dir))
-settled_by_sync disk dir path bytes inside is = record { leads = ap (λ b. if b then latest (disk.names path) ∷ [] else disk.names path) inside ∙ ap (λ f. f ∷ []) is.leads; synced = is.synced }
+settled_by_sync disk dir path bytes inside is = record { leads = ap (λ b. if b then latest (disk.names path) ∷ [] else disk.names path) inside ∙ ap (λ f. f ∷ []) is.leads; kept = is.kept; synced = is.synced }
 
 settled_by_first : (dir : List ℕ) (dirs : List (List ℕ)) (disk : Disk) (path bytes : List ℕ) → (is_in dir path ≡ true) ⊎ (is_in dir path ≡ false) → is_inside (dir ∷ dirs) path ≡ true → IsMade path bytes disk
     → ((other : Disk) → is_inside dirs path ≡ true → IsMade path bytes other → IsSettled path bytes (after_all other (sync_dirs dirs))) → IsSettled path bytes (after_all disk (sync_dirs (dir ∷ dirs)))
@@ -121,7 +125,7 @@ syncs_and_last (dir ∷ dirs) last = ap (λ calls. SyncDir dir ∷ calls) (syncs
 
 settled_past_rename : (disk : Disk) (from to path bytes : List ℕ) → from ≢ path → to ≢ path → IsSettled path bytes disk → IsSettled path bytes (after disk (Rename from to))
 settled_past_rename disk from to path bytes f t is =
-    record { leads = led_elsewhere (led disk.names to (latest (disk.names from))) from path None f ∙ led_elsewhere disk.names to path (latest (disk.names from)) t ∙ is.leads; synced = is.synced }
+    record { leads = led_elsewhere (led disk.names to (latest (disk.names from))) from path None f ∙ led_elsewhere disk.names to path (latest (disk.names from)) t ∙ is.leads; kept = is.kept; synced = is.synced }
 
 -- ---- calls that leave a path as it was
 
@@ -234,7 +238,8 @@ module _ (before : Standing) (parent path unfinished : List ℕ) (dirs : List (L
   -- ---- the unfinished folder is whole
 
   record IsFilled (disk : Disk) : Type 0 where
-    no_bytes_in : disk.content (New unfinished) ≡ whole []
+    kept_in : Option (List ℕ)
+    no_bytes_in : disk.content (New unfinished) ≡ on_device [] kept_in
     dirs_settled : AllByRecursion (λ dir. IsSettled dir [] disk) dirs
     files_settled : AllByRecursion (λ (file : FileAt). IsSettled file.path file.bytes disk) files
 
@@ -273,6 +278,7 @@ module _ (before : Standing) (parent path unfinished : List ℕ) (dirs : List (L
       subst Ready (sym run) (record {
         there = (made_past_syncs folders with_files unfinished [] root).leads;
         filled = record {
+          kept_in = (made_past_syncs folders with_files unfinished [] root).kept;
           no_bytes_in = (made_past_syncs folders with_files unfinished [] root).synced;
           dirs_settled = all_settled (λ dir. dir) (λ _. []) dirs folders with_files inside (all_past_files with_dirs dirs can_files.0 (dirs_made dirs begun can_dirs.0));
           files_settled = all_settled (λ (file : FileAt). file.path) (λ file. file.bytes) files folders with_files of.files_in (files_made files with_dirs can_files.0);
@@ -283,6 +289,7 @@ module _ (before : Standing) (parent path unfinished : List ℕ) (dirs : List (L
 
   filled_past_rename : (disk : Disk) → IsFilled disk → IsFilled (after disk (Rename unfinished path))
   filled_past_rename disk is = record {
+    kept_in = is.kept_in;
     no_bytes_in = is.no_bytes_in;
     dirs_settled = all_both_of dirs (λ dir. length unfinished < length dir) (λ dir. IsSettled dir [] disk) (λ dir. IsSettled dir [] (after disk (Rename unfinished path)))
         (λ dir l s. settled_past_rename disk unfinished path dir [] (longer_differs unfinished dir l) (longer_differs path dir (omega (arith, l, shorter))) s) long_dirs is.dirs_settled;
@@ -295,6 +302,7 @@ module _ (before : Standing) (parent path unfinished : List ℕ) (dirs : List (L
 
   filled_past_sync : (disk : Disk) (dir : List ℕ) → IsFilled disk → IsFilled (after disk (SyncDir dir))
   filled_past_sync disk dir is = record {
+    kept_in = is.kept_in;
     no_bytes_in = is.no_bytes_in;
     dirs_settled = all_weaker (λ d. IsSettled d [] disk) (λ d. IsSettled d [] (after disk (SyncDir dir))) dirs (λ d s. settled_past_sync disk dir d [] s) is.dirs_settled;
     files_settled = all_weaker (λ (file : FileAt). IsSettled file.path file.bytes disk) (λ file. IsSettled file.path file.bytes (after disk (SyncDir dir))) files (λ file s. settled_past_sync disk dir file.path file.bytes s) is.files_settled;
@@ -334,10 +342,10 @@ module _ (before : Standing) (parent path unfinished : List ℕ) (dirs : List (L
   filled_left : (disk : Disk) (leads : List ℕ → Option File) (left : Standing) → IsFilled disk → MayLeave disk leads left → leads path ≡ Some (New unfinished) → IsWholeFolder path unfinished dirs files leads left
   filled_left disk leads left filled leaves is = record {
     folder = is;
-    stands = read_synced disk.content (New unfinished) [] (left path) filled.no_bytes_in (subst (λ f. MayRead disk.content f (left path)) is (leaves path).1);
+    stands = read_synced disk.content (New unfinished) [] filled.kept_in (left path) filled.no_bytes_in (subst (λ f. MayRead disk.content f (left path)) is (leaves path).1);
     dirs_there = all_weaker (λ dir. IsSettled dir [] disk) (λ dir. leads dir ≡ Some (New dir)) dirs (λ dir s. leads_to disk leads left dir (Some (New dir)) leaves s.leads) filled.dirs_settled;
     files_there = all_weaker (λ (file : FileAt). IsSettled file.path file.bytes disk) (λ file. left file.path ≡ Some file.bytes) files
-        (λ file s. read_synced disk.content (New file.path) file.bytes (left file.path) s.synced (read_name disk leads left file.path (Some (New file.path)) leaves s.leads)) filled.files_settled;
+        (λ file s. read_synced disk.content (New file.path) file.bytes s.kept (left file.path) s.synced (read_name disk leads left file.path (Some (New file.path)) leaves s.leads)) filled.files_settled;
   }
 
   -- a path that leads to what was there reads as it did

@@ -5,6 +5,7 @@ pub mod FileCrash
 pub mod FolderCrash
 pub mod FolderSafe
 pub mod GivenUp
+pub mod GrowingCrash
 pub mod Looked
 pub mod Orders
 pub mod Paths

@@ -1,5 +1,6 @@
 pub mod Crashes
 pub mod Files
+pub mod Growing
 pub mod Folders
 pub mod Orders
 pub mod Segments

@@ -14,7 +14,7 @@ pub use abandoned::clear_abandoned;
 pub use fault::{WriteFault, written};
 pub use file::{write_pieces_synced, write_synced};
 pub use folder::{NewFile, begin_folder, finish_folder, write_files, write_new_folder};
-pub use laws::renamed_too_early;
+pub use laws::{grown_file, renamed_too_early};
 pub use names::{eight_digits, six_digits};
 pub use segment::write_new_segment;
 pub use target::Target;

@@ -1,5 +1,5 @@
 -- A disk, what calls make of it, and what a crash may leave of it.
-use Rattle.std.specs.Prelude.{◌≡◌, ◌⊎◌, ℕ, ◌++◌, Bool, true, false, ◌&&◌, if◌then◌else◌, List, [], ◌∷◌, length, take, drop, Option, Some, None, nat_lt, bytes_eq}
+use Rattle.std.specs.Prelude.{◌≡◌, ◌⊎◌, ℕ, ◌++◌, Bool, true, false, ◌&&◌, if◌then◌else◌, List, [], ◌∷◌, length, take, drop, Option, Some, None, IfSome, nat_lt, bytes_eq}
 use Rattle.std.specs.Option.{option_map, unwrap_or}
 use Rattle.std.specs.List.{AllByRecursion}
 use Rattle.std.specs.Path.{has_no_slash, with_separator}
@@ -11,10 +11,12 @@ pub data File : Type 0 where
   Old : List ℕ → File
   New : List ℕ → File
 
--- All that was written to a file, and whether all of it is on the device. Of a directory nothing was written.
+-- All that was written to a file, whether all of it is on the device, and what there was of it when the file was last synced, if it was. Of a
+-- directory nothing was written.
 pub record Content : Type 0 where
   pub bytes : List ℕ
   pub synced : Bool
+  pub kept : Option (List ℕ)
 
 -- A disk. What a path has led to since its directory was last synced, the last first; and the files. The paths in a directory that was
 -- renamed stay those under which they were created.
@@ -50,14 +52,14 @@ latest [] = None
 latest (file ∷ files) = file
 
 abbrev pub no_bytes : Content
-no_bytes = record { bytes = []; synced = true }
+no_bytes = record { bytes = []; synced = true; kept = None }
 
 -- the disk after a call that took effect
 abbrev pub after : Disk → Call → Disk
 after disk (Create path) = record { names = led disk.names path (Some (New path)); content = given disk.content path no_bytes }
 after disk (CreateDir path) = record { names = led disk.names path (Some (New path)); content = given disk.content path no_bytes }
-after disk (Write path bytes) = record { names = disk.names; content = given disk.content path (record { bytes = (disk.content (New path)).bytes ++ bytes; synced = false }) }
-after disk (SyncFile path) = record { names = disk.names; content = given disk.content path (record { bytes = (disk.content (New path)).bytes; synced = true }) }
+after disk (Write path bytes) = record { names = disk.names; content = given disk.content path (record { bytes = (disk.content (New path)).bytes ++ bytes; synced = false; kept = (disk.content (New path)).kept }) }
+after disk (SyncFile path) = record { names = disk.names; content = given disk.content path (record { bytes = (disk.content (New path)).bytes; synced = true; kept = Some (disk.content (New path)).bytes }) }
 after disk (SyncDir dir) = record { names = λ path. if is_in dir path then latest (disk.names path) ∷ [] else disk.names path; content = disk.content }
 after disk (Rename from to) = record { names = led (led disk.names to (latest (disk.names from))) from None; content = disk.content }
 after disk (Remove path) = record { names = led disk.names path None; content = disk.content }
@@ -85,7 +87,11 @@ Standing = List ℕ → Option (List ℕ)
 abbrev pub disk_of : Standing → Disk
 disk_of standing = record {
   names = λ path. option_map (λ _. Old path) (standing path) ∷ [];
-  content = λ file. record { bytes = elim file [ Old path ↦ unwrap_or (standing path) [] | New path ↦ [] ]; synced = true };
+  content = λ file. record {
+    bytes = elim file [ Old path ↦ unwrap_or (standing path) [] | New path ↦ [] ];
+    synced = true;
+    kept = elim file [ Old path ↦ Some (unwrap_or (standing path) []) | New path ↦ None ];
+  };
 }
 
 -- ---- what a crash may leave
@@ -94,10 +100,16 @@ abbrev pub IsAmong : {X : Type 0} → List X → X → Type 0
 IsAmong [] x = ⊥
 IsAmong (y ∷ ys) x = (x ≡ y) ⊎ IsAmong ys x
 
--- what may be read of a file after a crash: its bytes, or any bytes if they are not all on the device
+-- the bytes begin with the first ones, and the last ones begin with them
+abbrev pub IsBetween : List ℕ → List ℕ → List ℕ → Type 0
+IsBetween first bytes last = ((more : List ℕ) × (bytes ≡ first ++ more)) × ((rest : List ℕ) × (last ≡ bytes ++ rest))
+
+-- What may be read of a file after a crash: its bytes, or any bytes if they are not all on the device. A file that was synced has at least what
+-- it had then, and a first part of what was written behind it.
 abbrev pub MayRead : (File → Content) → Option File → Option (List ℕ) → Type 0
 MayRead content None left = left ≡ None
 MayRead content (Some file) left = (bytes : List ℕ) × (left ≡ Some bytes) × ((content file).synced ≡ true → bytes ≡ (content file).bytes)
+    × IfSome (content file).kept (λ first. IsBetween first bytes (content file).bytes)
 
 -- A crash may leave this: each path leads to something that it has led to since its directory was synced, whatever other paths lead to.
 abbrev pub MayLeave : Disk → (List ℕ → Option File) → Standing → Type 0

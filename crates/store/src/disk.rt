@@ -14,7 +14,7 @@ use crate::store::{PartRead, Store, StoreFault};
 use crate::whole::{MOST_READS, fill_next, read_whole, write_whole};
 use hash_seed::HashSeed;
 use std::alloc::{AllocError, Global};
-use std::fs::{DirEntry, File, OpenFile};
+use std::fs::{DirEntry, File, OpenFile, TryLockError};
 use std::os::unix::fs::FileExt;
 use std::random::RandomSource;
 use std::rt::Files;
@@ -279,6 +279,14 @@ impl<R: Threads> Store for Disk<'_, R> {
         check_file(self.host, path).is_ok()
             && match File::open(&self.host, path) {
                 Ok(file) => length_of(&file) == 0 && file.try_lock_shared().is_ok(),
+                Err(_) => false,
+            }
+    }
+
+    fn is_held(&self, path: &str) -> bool {
+        check_file(self.host, path).is_ok()
+            && match File::open(&self.host, path) {
+                Ok(file) => matches!(file.try_lock_shared(), Err(TryLockError::WouldBlock)),
                 Err(_) => false,
             }
     }

@@ -163,6 +163,11 @@ pub trait Store {
         false
     }
 
+    /// Returns whether a writer of `create_new` has the file at the path open. Where the store can't tell, it returns `false`.
+    fn is_held(&self, _path: &str) -> bool {
+        false
+    }
+
     /// Creates a file. Returns an error if the path exists.
     fn create_new(&mut self, path: &str) -> Result<Self::Writer, StoreFault>
         ensures call { Called did self.old (Create path.now) result self.new }
@@ -189,7 +194,8 @@ pub trait Store {
 
     /// Syncs a new file: what was written to it outlasts a crash.
     fn sync_file(&mut self, writer: &mut Self::Writer) -> Result<(), StoreFault>
-        ensures call { (path : List ℕ) → is_of writer.old path → Called did self.old (SyncFile path) result self.new };
+        ensures call { (path : List ℕ) → is_of writer.old path → Called did self.old (SyncFile path) result self.new }
+        ensures writer { (path : List ℕ) → is_of writer.old path → is_of writer.new path };
 
     /// Syncs a directory: its names outlast a crash. The empty path is the directory of the program, in which a name alone is.
     fn sync_dir(&mut self, path: &str) -> Result<(), StoreFault>

@@ -7,6 +7,9 @@ pub mod CheckpointFiles
 pub mod Checkpointed
 pub mod CheckpointsLeft
 pub mod Folders
+pub mod GrownBegun
+pub mod GrownLogs
+pub mod GrownReadings
 pub mod InDirs
 pub mod Joined
 pub mod LastNumbers

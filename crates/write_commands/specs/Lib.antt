@@ -2,6 +2,7 @@ pub mod Again
 pub mod Checkpoints
 pub mod CheckpointTexts
 pub mod Crashes
+pub mod Growing
 pub mod Logs
 pub mod RowParts
 pub mod RowTexts

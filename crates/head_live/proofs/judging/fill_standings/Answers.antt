@@ -6,7 +6,7 @@ use Rattle.head_live.specs.Keys.{labels_of_keys}
 use Rattle.head_live.specs.Sets.{set_in, sets_in}
 use Rattle.head_live.proofs.AgainLemmas.{key_at}
 use Rattle.head_live.proofs.StartLemmas.{starts_push}
-use Rattle.head_live.proofs.judging.standings.Goals as goal
+use Rattle.head_live.proofs.judging.fill_standings.Goals as goal
 
 pub loop-number-preserved : goal.loop-number-preserved
 loop-number-preserved c =

@@ -3,7 +3,7 @@ use Rattle.head_live.specs.Keys.{labels_of_keys}
 use Rattle.head_live.specs.Known.{Knows}
 use Rattle.head_live.specs.Judged.{IsStart, standing_at}
 use Rattle.head_live.specs.Sets.{sets_in}
-use Rattle.head_live.proofs.judging.standings.Given as goal
+use Rattle.head_live.proofs.judging.fill_standings.Given as goal
 
 abbrev pub invariant-loop-number : goal.invariant-loop-number
 invariant-loop-number l = record {
