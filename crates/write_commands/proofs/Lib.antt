@@ -22,6 +22,7 @@ pub mod Numbers
 pub mod OfLog
 pub mod Outlasts
 pub mod Planned
+pub mod Readings
 pub mod Records
 pub mod Replays
 pub mod RowLaws
