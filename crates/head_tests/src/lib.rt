@@ -103,6 +103,8 @@ mod starts;
 #[cfg(test)]
 mod streams;
 #[cfg(test)]
+mod switches;
+#[cfg(test)]
 mod tickets;
 #[cfg(test)]
 mod unjoined;
