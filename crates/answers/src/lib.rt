@@ -19,6 +19,6 @@ pub use number_lines::push_numbers;
 pub use output::{Output, PrintFault, print_long};
 pub use requests::{
     AnalyzeRequest, AppendRequest, BlockRequest, BlocksRequest, CheckpointRequest, CutRequest,
-    DumpRequest, InspectRequest, LogForm, Request, RescueRequest, UnpackRequest,
+    DumpRequest, InspectRequest, LiveRequest, LogForm, Request, RescueRequest, UnpackRequest,
 };
 pub use spelling::{Pair, pair_of, push_pair, push_spelled, read_pair};

@@ -101,6 +101,23 @@ pub struct RescueRequest<'a> {
     pub options: Options,
 }
 
+/// A request to run a store over the log in the directory `dir`: rows are appended while they come, and full hours are cut into blocks, each in a
+/// folder of its name in the directory `out`, with chunks that a server opens.
+#[derive(Clone, Copy, Debug, PartialEq, Eq)]
+pub struct LiveRequest<'a> {
+    pub dir: &'a str,
+    pub out: &'a str,
+    /// The paths of the inputs of rows, with a colon between them. Empty for standard input.
+    pub rows: &'a str,
+    /// Whether the values of the rows are floating point numbers, whose bits are appended.
+    pub floats: bool,
+    /// After how many milliseconds the log is synced again. 0 if it is synced after each batch of rows.
+    pub sync: u64,
+    /// How many milliseconds past the end of an hour a sample is accepted before the hour is cut.
+    pub after: u64,
+    pub options: Options,
+}
+
 /// A request to append the rows of a file to the log in a directory.
 #[derive(Clone, Copy, Debug, PartialEq, Eq)]
 pub struct AppendRequest<'a> {

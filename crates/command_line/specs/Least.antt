@@ -6,7 +6,7 @@ use Rattle.answers.specs.declared.requests.BlockRequest.TheVariants.{Block, Cut,
 use Rattle.answers.specs.declared.requests.Request.{Request}
 use Rattle.answers.specs.declared.requests.Request.TheVariants.{Records, Replay, Series}
 use Rattle.command_line.specs.declared.asked.Asked.{Asked}
-use Rattle.command_line.specs.declared.asked.Asked.TheVariants.{Analyze, Append, Blocks, Checkpoint, Dump, Inspect, OfBlocks, OfLog, Rescue, Unpack}
+use Rattle.command_line.specs.declared.asked.Asked.TheVariants.{Analyze, Append, Blocks, Checkpoint, Dump, Inspect, Live, OfBlocks, OfLog, Rescue, Unpack}
 
 abbrev pub least_options : ℤ → Options → Options
 least_options least options = record options { min_valid = least }
@@ -31,5 +31,6 @@ from_least least (OfBlocks request) = OfBlocks (least_blocks least request)
 from_least least (Blocks request) = Blocks (record request { options = least_options least request.options })
 from_least least (Rescue request) = Rescue (record request { options = least_options least request.options })
 from_least least (Append request) = Append (record request { options = least_options least request.options })
+from_least least (Live request) = Live (record request { options = least_options least request.options })
 from_least least (Checkpoint request) = Checkpoint (record request { min_valid = least })
 from_least least (Unpack request) = Unpack request

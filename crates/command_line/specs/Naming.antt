@@ -4,7 +4,7 @@ use Rattle.std.specs.Borrow.{Bor}
 use Rattle.answers.specs.declared.requests.BlockRequest.{BlockRequest}
 use Rattle.answers.specs.declared.requests.BlockRequest.TheVariants.{Block, Cut, Ranges}
 use Rattle.command_line.specs.declared.asked.Asked.{Asked}
-use Rattle.command_line.specs.declared.asked.Asked.TheVariants.{Analyze, Append, Blocks, Checkpoint, Dump, Inspect, OfBlocks, OfLog, Rescue, Unpack}
+use Rattle.command_line.specs.declared.asked.Asked.TheVariants.{Analyze, Append, Blocks, Checkpoint, Dump, Inspect, Live, OfBlocks, OfLog, Rescue, Unpack}
 
 -- a name is to be made for its block, or for the first of its blocks
 abbrev pub lacks_name : Asked → Bool
@@ -18,6 +18,7 @@ lacks_name (Inspect request) = false
 lacks_name (Analyze request) = false
 lacks_name (Dump request) = false
 lacks_name (Append request) = false
+lacks_name (Live request) = false
 lacks_name (Checkpoint request) = false
 lacks_name (Unpack request) = false
 
@@ -36,5 +37,6 @@ named name (Inspect request) = Inspect request
 named name (Analyze request) = Analyze request
 named name (Dump request) = Dump request
 named name (Append request) = Append request
+named name (Live request) = Live request
 named name (Checkpoint request) = Checkpoint request
 named name (Unpack request) = Unpack request

@@ -189,6 +189,30 @@ pub(crate) fn out<'a>(alloc: Global) -> Arg<'a> {
         .required(true)
 }
 
+pub(crate) fn inputs<'a>(alloc: Global) -> Arg<'a> {
+    Arg::new(alloc, "rows")
+        .long("rows")
+        .value_name("FILES")
+        .help("Files or named pipes of rows, with a colon between them, in place of standard input")
+}
+
+pub(crate) fn sync<'a>(alloc: Global) -> Arg<'a> {
+    Arg::new(alloc, "sync")
+        .long("sync")
+        .value_name("MS")
+        .help("Sync the log after so many milliseconds, or after `each` batch of rows")
+        .default_value("1000")
+}
+
+pub(crate) fn after<'a>(alloc: Global) -> Arg<'a> {
+    Arg::new(alloc, "after")
+        .long("after")
+        .value_name("SECONDS")
+        .help("Cut an hour once a sample is so many seconds past its end")
+        .value_parser(value_parser!(u32))
+        .default_value("300")
+}
+
 pub(crate) fn blocks_out<'a>(alloc: Global) -> Arg<'a> {
     Arg::new(alloc, "out")
         .long("out")

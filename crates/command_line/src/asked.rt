@@ -1,10 +1,11 @@
 //! What a command line asks for.
 
 use crate::commands::program;
-use crate::sizes::{BAD_SIZE, size_of};
+use crate::sizes::{BAD_SIZE, BAD_SYNC, size_of};
 use answers::{
     AnalyzeRequest, AppendRequest, BlockRequest, BlocksRequest, CheckpointRequest, CutRequest,
-    DumpRequest, Encoding, InspectRequest, LogForm, Request, RescueRequest, UnpackRequest,
+    DumpRequest, Encoding, InspectRequest, LiveRequest, LogForm, Request, RescueRequest,
+    UnpackRequest,
 };
 use clap::error::ErrorKind;
 use clap::{ArgMatches, Command, Error};
@@ -31,6 +32,8 @@ pub enum Asked<'a> {
     Rescue(RescueRequest<'a>),
     /// Append rows to a log.
     Append(AppendRequest<'a>),
+    /// Run a store over a log.
+    Live(LiveRequest<'a>),
     /// Make a checkpoint of a log.
     Checkpoint(CheckpointRequest<'a>),
     /// Write a log anew without compression.
@@ -63,6 +66,14 @@ fn options(of: &ArgMatches<'_>) -> Option<Options> {
 // Returns how many bytes of memory are to suffice, if that is given as a size.
 fn memory(of: &ArgMatches<'_>) -> Option<u64> {
     size_of(of.get_str("memory")?)
+}
+
+// Returns after how many milliseconds a log is synced again, if that is given as such a number or as `each`.
+fn sync(of: &ArgMatches<'_>) -> Option<u64> {
+    match of.get_str("sync")? {
+        "each" => Some(0),
+        millis => Some(u64::from(millis.parse::<u32>().ok()?)),
+    }
 }
 
 // Returns the form in which the log is read.
@@ -205,6 +216,18 @@ fn of_append<'a>(of: &ArgMatches<'a>) -> Option<AppendRequest<'a>> {
     })
 }
 
+fn of_live<'a>(of: &ArgMatches<'a>) -> Option<LiveRequest<'a>> {
+    Some(LiveRequest {
+        dir: of.get_str("dir")?,
+        out: of.get_str("out")?,
+        rows: of.get_str("rows").unwrap_or(""),
+        floats: of.get_flag("floats"),
+        sync: sync(of)?,
+        after: u64::from(of.get_one::<u32>("after")?) * 1000,
+        options: options(of)?,
+    })
+}
+
 fn of_checkpoint<'a>(of: &ArgMatches<'a>) -> Option<CheckpointRequest<'a>> {
     Some(CheckpointRequest {
         dir: of.get_str("dir")?,
@@ -231,6 +254,7 @@ fn of_others<'a>(matches: &ArgMatches<'a>) -> Option<Asked<'a>> {
         ("blocks", of) => Some(Asked::Blocks(of_every_hour(of)?)),
         ("rescue", of) => Some(Asked::Rescue(of_rescue(of)?)),
         ("append", of) => Some(Asked::Append(of_append(of)?)),
+        ("live", of) => Some(Asked::Live(of_live(of)?)),
         ("checkpoint", of) => Some(Asked::Checkpoint(of_checkpoint(of)?)),
         ("unpack", of) => Some(Asked::Unpack(of_unpack(of)?)),
         _ => None,
@@ -295,11 +319,12 @@ fn line_of<'a>(matches: &ArgMatches<'a>) -> Option<CommandLine<'a>> {
     })
 }
 
-// Returns whether what is given as a size is none.
-fn has_bad_size(matches: &ArgMatches<'_>) -> bool {
-    match matches.subcommand() {
-        Some(("blocks", of)) => of.get_str("memory").is_some() && memory(of).is_none(),
-        _ => false,
+// Returns what is wrong with a value that clap does not check, if anything is.
+fn bad_value(matches: &ArgMatches<'_>) -> Option<&'static str> {
+    match matches.subcommand()? {
+        ("blocks", of) if of.get_str("memory").is_some() && memory(of).is_none() => Some(BAD_SIZE),
+        ("live", of) if sync(of).is_none() => Some(BAD_SYNC),
+        _ => None,
     }
 }
 
@@ -308,8 +333,8 @@ fn matched<'a>(
     words: &'a [String],
 ) -> Result<Option<CommandLine<'a>>, Error> {
     let matches = command.try_get_matches_from_mut(words)?;
-    if has_bad_size(&matches) {
-        return Err(command.error(ErrorKind::ValueValidation, BAD_SIZE)?);
+    if let Some(text) = bad_value(&matches) {
+        return Err(command.error(ErrorKind::ValueValidation, text)?);
     }
     Ok(line_of(&matches))
 }

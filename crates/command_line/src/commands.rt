@@ -116,6 +116,14 @@ fn append<'a>(alloc: Global) -> Result<Command<'a>, AllocError> {
     replaying_as_it_is(alloc, command)
 }
 
+fn live<'a>(alloc: Global) -> Result<Command<'a>, AllocError> {
+    let about = "Appends rows while they come, and cuts full hours into blocks";
+    let command = on_log(alloc, "live", about, texts::LIVE);
+    let command = also(also(command, blocks_out(alloc)), inputs(alloc));
+    let command = also(also(command, floats(alloc)), sync(alloc));
+    replaying_as_it_is(alloc, also(command, after(alloc)))
+}
+
 fn checkpoint<'a>(alloc: Global) -> Result<Command<'a>, AllocError> {
     let about = "Writes a checkpoint: what is still needed of the log";
     let command = in_forms(alloc, on_log(alloc, "checkpoint", about, texts::CHECKPOINT));
@@ -160,5 +168,6 @@ pub(crate) fn program<'a>(alloc: Global) -> Result<Command<'a>, AllocError> {
     let command = with(command, blocks(alloc))?;
     let command = with(command, block(alloc))?;
     let command = with(command, append(alloc))?;
+    let command = with(command, live(alloc))?;
     with(command, checkpoint(alloc))
 }

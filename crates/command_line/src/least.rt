@@ -6,7 +6,7 @@ ghost use Rattle.command_line.specs.Least.{from_least, least_blocks, least_log, 
 use crate::asked::Asked;
 use answers::{
     AnalyzeRequest, AppendRequest, BlockRequest, BlocksRequest, CheckpointRequest, CutRequest,
-    DumpRequest, InspectRequest, Request, RescueRequest,
+    DumpRequest, InspectRequest, LiveRequest, Request, RescueRequest,
 };
 use head_replay::Options;
 
@@ -88,6 +88,10 @@ impl<'a> Asked<'a> {
                 ..request
             }),
             Asked::Append(request) => Asked::Append(AppendRequest {
+                options: options_from(request.options, min_valid),
+                ..request
+            }),
+            Asked::Live(request) => Asked::Live(LiveRequest {
                 options: options_from(request.options, min_valid),
                 ..request
             }),

@@ -4,6 +4,10 @@
 pub(crate) const BAD_SIZE: &str =
     "invalid value for '--memory <SIZE>': it is a number of bytes, which may end in K, M, G or T";
 
+/// What is reported of a time after which a log is synced that is none.
+pub(crate) const BAD_SYNC: &str =
+    "invalid value for '--sync <MS>': it is `each` or a number of milliseconds";
+
 // Returns the number before the last letter of a size, and how many bytes one of its unit is: a power of 1024.
 fn parts_of(text: &str) -> (&str, u64) {
     for (letter, bytes) in [

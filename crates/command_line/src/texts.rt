@@ -224,6 +224,29 @@ Exit status:
   3  a file cannot be read or written, or a line is not a row
   4  out of memory, or a thread could not start";
 
+pub(crate) const LIVE: &str = "\
+Replays the log, and goes on in a new segment. Rows come from standard input, or from the files of
+--rows, each read by a thread of its own, as `append` takes them. Rows that have come together are
+appended at once, and answered when they are in the log: a line for each, as `append` prints it, or
+why it is no row. A last line without a newline is no row. `accepted` rows outlast a crash of the
+program; after a power loss those are there that were accepted before the last sync. Each full hour
+becomes a block in OUT while rows go on coming, and is told by `block NAME`. Rows that are older than
+the end of the last block in OUT are `expired`.
+
+Ends when all inputs do, with the log synced. Removes no file. No server and no other run may have
+the log open: a second `live` and `append` are refused. If a crash cut the last record, `live` says
+that the log is damaged, and `unpack --through-damage` makes a copy without it.
+
+Example:
+  producer | prom_head live wal --out blocks --floats
+
+Exit status:
+  0  all rows were answered, and the log is synced
+  1  the log is damaged: nothing was written
+  2  the command line is wrong
+  3  a file cannot be read or written, or a line was no row
+  4  out of memory, or a thread could not start";
+
 pub(crate) const CHECKPOINT: &str = "\
 Writes the folder checkpoint.NUMBER into DIR, and removes nothing. Run it while no server has the
 log open. The checkpoint has all series, and the samples and deletions that --min-valid does not
@@ -246,5 +269,6 @@ Exit status:
 pub(crate) const PROGRAM: &str = "\
 DIR is a server's directory `wal`, in its data directory, or a copy of it. A server compresses its
 log by default: `inspect`, `rescue` and `unpack` read such a log, and the other commands need -z,
-but for `append`, which refuses it. If a server does not start, see `prom_head help rescue`.
-`prom_head help COMMAND` says what a command writes, with an example and its exit statuses.";
+but for `append` and `live`, which refuse it. If a server does not start, see
+`prom_head help rescue`. `prom_head help COMMAND` says what a command writes, with an example and
+its exit statuses.";

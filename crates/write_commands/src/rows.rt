@@ -35,13 +35,13 @@ fn read_value(word: &str, floats: bool) -> Option<i64>
     }
 }
 
-// A row whose labels are not parsed yet.
+/// A row whose labels are not parsed yet.
 #[derive(Drop)]
-struct RowParts<'a> {
-    time: i64,
-    value: i64,
-    // the labels, separated by one space
-    labels: &'a str,
+pub struct RowParts<'a> {
+    pub time: i64,
+    pub value: i64,
+    /// The labels, separated by one space.
+    pub labels: &'a str,
 }
 
 // Splits what follows the time of a row into the word of the value and the text of the labels.
@@ -57,8 +57,9 @@ fn split_value(rest: &str) -> Option<(&str, &str)>
     Some((value, labels))
 }
 
-// Parses the time and the value of a row: `TIME VALUE LABEL ..`, separated by one space.
-fn read_parts(line: &str, floats: bool) -> Option<RowParts<'_>>
+/// Parses the time and the value of a row: `TIME VALUE LABEL ..`, separated by one space. Returns `None` if it is no row, but the labels are not
+/// looked at.
+pub fn read_parts(line: &str, floats: bool) -> Option<RowParts<'_>>
     ensures { IfSome result (ArePartsOf floats line.now) }
 {
     let (time, rest) = line.split_once(' ')?;
@@ -70,8 +71,8 @@ fn read_parts(line: &str, floats: bool) -> Option<RowParts<'_>>
     })
 }
 
-// Parses labels as they are printed, separated by one space.
-fn read_labels(alloc: Global, text: &str) -> Result<Option<Vec<(Vec<u8>, Vec<u8>)>>, AllocError>
+/// Parses labels as they are printed, separated by one space. Returns `None` if they are not spelled so.
+pub fn read_labels(alloc: Global, text: &str) -> Result<Option<Vec<(Vec<u8>, Vec<u8>)>>, AllocError>
     ensures { IfOk result (λ found. IfSome found (λ pairs. SpellsLabels text.now (labels_of pairs.items))) }
 {
     let mut pairs = Vec::new(alloc);
