@@ -2,11 +2,12 @@
 //! a checkpoint of it, or writes it anew without compression.
 #![tactic(auto)]
 
-mod naming;
 mod program;
+mod spare;
 mod standard;
 
 use crate::program::run;
+use crate::spare::Spare;
 use crate::standard::Standard;
 use answers::{Answer, LineFault, Output, Status};
 use progress::Meter;
@@ -62,9 +63,10 @@ fn show<R: Print + Eprint>(rt: &R, answer: &Answer, is_terminal: bool) -> Status
 }
 
 // Runs the program over a store. `is_terminal` says whether standard error is a terminal, and `bars` whether standard output is one.
-fn run_here<R, S: PartStore + Sync, O: Output + Drop>(
+fn run_here<R, S: PartStore + Sync + Send + Drop, O: Output + Send + Drop>(
     rt: &R,
     store: &mut S,
+    spare: Spare<S>,
     out: O,
     is_terminal: bool,
     bars: bool,
@@ -75,7 +77,8 @@ where
     R: Env + Clock + RandomSource + Eprint + AllocGlobal + Threads + Wait + Sync + Drop,
 {
     let words = arguments(rt)?;
-    run(rt, store, &Meter::new(rt, is_terminal), out, &words, bars)
+    let meter = Meter::new(rt, is_terminal);
+    run(rt, store, spare, &meter, out, &words, bars)
 }
 
 // Prints what is left to be printed, and returns the exit status. A reader that has enough and closes its end is no fault.
@@ -99,6 +102,11 @@ fn main(rt: HostRuntime) -> ExitCode {
     let is_terminal = rt.stderr().is_terminal();
     let bars = rt.stdout().is_terminal();
     let out = Standard::new(&rt);
-    let ran = run_here(&rt, &mut Disk::new(&rt), out, is_terminal, bars);
+    let spare = Spare {
+        log: Disk::new(&rt),
+        blocks: Disk::new(&rt),
+        host: rt,
+    };
+    let ran = run_here(&rt, &mut Disk::new(&rt), spare, out, is_terminal, bars);
     end(&rt, ran, is_terminal).into()
 }

@@ -1,0 +1,3 @@
+mod Begun
+mod Hours
+pub mod Sends
