@@ -2,7 +2,7 @@
 _prom_head() {
     local word=${COMP_WORDS[COMP_CWORD]} options=
     if [ "$COMP_CWORD" -eq 1 ]; then
-        mapfile -t COMPREPLY < <(compgen -W 'inspect rescue unpack replay records series analyze dump ranges cut blocks block append checkpoint help --help --version' -- "$word")
+        mapfile -t COMPREPLY < <(compgen -W 'inspect rescue unpack replay records series analyze dump ranges cut blocks block append live checkpoint help --help --version' -- "$word")
         return
     fi
     case ${COMP_WORDS[1]} in
@@ -19,8 +19,9 @@ _prom_head() {
         blocks) options='-z -h --out --ulid --memory --unpack --past-damage --workers --round-pages --min-valid --min-valid-of --help' ;;
         block) options='-h --help' ;;
         append) options='-h --rows --floats --workers --round-pages --min-valid --min-valid-of --help' ;;
+        live) options='-h --out --rows --floats --sync --after --workers --round-pages --min-valid --min-valid-of --help' ;;
         checkpoint) options='-z -h --unpack --past-damage --min-valid --min-valid-of --keep-skipped --help' ;;
-        help) options='inspect rescue unpack replay records series analyze dump ranges cut blocks block append checkpoint' ;;
+        help) options='inspect rescue unpack replay records series analyze dump ranges cut blocks block append live checkpoint' ;;
     esac
     if [[ $word == -* || ${COMP_WORDS[1]} == help ]]; then
         mapfile -t COMPREPLY < <(compgen -W "$options" -- "$word")
