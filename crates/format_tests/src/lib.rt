@@ -14,6 +14,8 @@ mod encoders;
 #[cfg(test)]
 mod files;
 #[cfg(test)]
+mod html;
+#[cfg(test)]
 mod indices;
 #[cfg(test)]
 mod joiners;

@@ -1,0 +1,5 @@
+pub mod Placing
+pub mod Summing
+pub mod Counted
+pub mod Ended
+pub mod Parted
