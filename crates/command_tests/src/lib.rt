@@ -23,6 +23,10 @@ mod listing;
 #[cfg(test)]
 mod lists;
 #[cfg(test)]
+mod live_stores;
+#[cfg(test)]
+mod lives;
+#[cfg(test)]
 mod many;
 #[cfg(test)]
 mod meters;

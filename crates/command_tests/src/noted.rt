@@ -47,6 +47,22 @@ fn copied(alloc: Global, bytes: &[u8]) -> Result<Vec<u8>, StoreFault>
     Ok(bytes.to_vec(alloc)?)
 }
 
+impl Noted {
+    /// Makes one of which no call was made.
+    pub fn new(alloc: Global, shelf: Shelf) -> Noted {
+        Noted {
+            alloc,
+            shelf,
+            calls: Vec::new(alloc),
+        }
+    }
+
+    /// Returns the calls in order.
+    pub fn calls(&self) -> &[NotedCall] {
+        &self.calls
+    }
+}
+
 impl Store for Noted {
     ghost use Rattle.command_tests.specs.Noted.{IsNoted, noted_both, noted_nothing};
 

@@ -20,7 +20,8 @@ const RECORDS_OF_A_PAGE: usize = 4_681;
 // The least bytes of a piece.
 const PIECE: usize = 65_536;
 
-const DUMPS: Asked<'static> = Asked::Dump(DumpRequest {
+/// All samples of the log are printed.
+pub const DUMPS: Asked<'static> = Asked::Dump(DumpRequest {
     dir: "log",
     form: LogForm::Plain,
     pair: None,

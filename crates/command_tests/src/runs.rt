@@ -5,7 +5,7 @@ use crate::fragments::*;
 use crate::printed::Printed;
 use crate::shelf::Shelf;
 use answers::{
-    AnalyzeRequest, Answer, DumpRequest, Encoding, LogForm, Output, Request, UnpackRequest,
+    AnalyzeRequest, Answer, DumpRequest, Encoding, LogForm, Output, Request, Status, UnpackRequest,
 };
 use block_commands::{BlockRequest, CutRequest, carry_out_block};
 use command_line::Asked;
@@ -137,6 +137,8 @@ where
         Asked::Append(request) => carry_out_append(rt, alloc, store, progress, request),
         Asked::Checkpoint(request) => carry_out_checkpoint(alloc, store, request),
         Asked::Unpack(request) => carry_out_unpack(alloc, store, request),
+        // takes its stores, as in live_stores.rt
+        Asked::Live(_) => Answer::done(String::new(alloc), Status::Usage),
     };
     (answer, out)
 }
