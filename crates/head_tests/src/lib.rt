@@ -99,6 +99,8 @@ mod shared_series;
 #[cfg(test)]
 mod sources;
 #[cfg(test)]
+mod spans;
+#[cfg(test)]
 mod starts;
 #[cfg(test)]
 mod streams;
